@@ -12,20 +12,26 @@ JOBS ?= $(shell awk -v n=$$(nproc) '/^MemAvailable/ { j = 1 + int(($$2 / 1000000
 EDITED = browser_core client_core connection_core days desk_core desk_finds desk_model desk_reports \
 	desk_style desk_words find_core find_form hours_core lifecycle_core line_core log_core message_core \
 	page_core page_reply poll_host report_core rights_core route_core server_core settings_core \
-	settings_form settings_parts text_core zone_rules
+	settings_form settings_parts text_core web_core zone_rules
 
-.PHONY: demo test edits desk install trials models wrong sweep
+.PHONY: demo look test edits desk install package trials trials-of-a-server models wrong sweep
 
-# The first look: the printer script, run in two to three minutes where little else runs, before any
-# proof.
+# The first look: the printer script, run before any proof, with what it answers.
 demo:
-	@echo "Not proved: this runs the desk as it stands. 'make test' proves it."
-	cd crates/desk && rt try < ../../examples/printer.desk
+	@examples/demo
 
-# The gate: every proof, every test and every stored run, and then the wrong edits of EDITED, which must
-# be refused. What passed on this machine and hasn't changed isn't proved again. The office that users copy is the one that the cases read.
+# Pages at an address until Ctrl-C, of an office with thirty requests: by bin/desk_web where it is
+# there, and else before any proof.
+look:
+	@examples/look
+
+# The gate: every proof, every test and every stored run from nothing, and then the wrong edits of
+# EDITED, which must be refused. They are tried over the libraries that `rt ci` proves: those that were
+# built before go first, or it would put them back in their place. The office that users copy is the
+# one that the cases read.
 test:
 	cmp examples/office.toml crates/suite/data/texts/office.toml
+	rm -rf crates/*/out/rlib
 	RT_JOBS=$(JOBS) rt ci
 	bench/edits-judge
 	RT_JOBS=$(JOBS) bench/edits --after-ci $(EDITED)
@@ -36,7 +42,8 @@ edits:
 
 # The proved programs, as bin/desk, bin/desk_web, bin/desk_ask and bin/desk_load. From nothing it
 # takes half an hour to an hour on four cores. Without options desk_web has nothing to serve, desk_ask
-# nothing to ask and desk_load nothing to load into: all three end with 2.
+# nothing to ask and desk_load nothing to load into: all three end with 2. The commit and the toolchain
+# are written into desk_ask at the end, for `--version`.
 desk:
 	cd crates/desk && rt run < ../../examples/printer.desk
 	cd crates/desk_web && { rt run; test $$? -eq 2; }
@@ -45,6 +52,7 @@ desk:
 	mkdir -p bin
 	cp crates/desk/out/desk crates/desk_web/out/desk_web crates/desk_ask/out/desk_ask bin
 	cp crates/desk_load/out/desk_load bin
+	package/stamp bin/desk_ask
 
 # The programs, the manual pages and what bash offers, below PREFIX.
 install: desk
@@ -53,9 +61,15 @@ install: desk
 	install -D -m 755 bin/desk_ask $(PREFIX)/bin/desk_ask
 	install -D -m 755 bin/desk_load $(PREFIX)/bin/desk_load
 	install -D -m 644 docs/desk.1 $(PREFIX)/share/man/man1/desk.1
+	install -D -m 644 docs/desk_web.1 $(PREFIX)/share/man/man1/desk_web.1
 	install -D -m 644 docs/ask.1 $(PREFIX)/share/man/man1/desk_ask.1
 	install -D -m 644 docs/load.1 $(PREFIX)/share/man/man1/desk_load.1
 	install -D -m 644 examples/desk_ask.bash $(PREFIX)/share/bash-completion/completions/desk_ask
+
+# bin/desk_VERSION_amd64.deb for Debian 12, of the programs that stand in bin/: run `make desk` before.
+# It needs debhelper and dpkg-dev.
+package:
+	package/build
 
 # What tries the program from outside (trials/README.md), and then the judges themselves on stubs.
 # trials/full mounts a small disk, so this is run by root.
@@ -72,6 +86,12 @@ trials: desk
 	trials/judges
 	trials/judges_web
 	trials/judges_browser
+
+# What tries the package and the page on running a desk, on a clean Debian with a systemd of its own. Run
+# by root; trials/README.md says what it needs.
+trials-of-a-server: package
+	trials/package
+	trials/operate
 
 # The rules told twice: what they come to is compared with what is stored, in a few seconds.
 models:

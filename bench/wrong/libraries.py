@@ -63,8 +63,8 @@ def list_in(root, room, crates):
 
 
 def given_by_ci(root, crates, room):
-    """These crates in a copy, over the libraries that `rt ci` builds there: what it proved of the
-    same files on this machine it gives without another proof. None where it fails."""
+    """These crates in a copy, over the libraries that `rt ci` proves and builds there from nothing;
+    None where it fails."""
     below = list({it.name: it for crate in crates for it in crate.below()}.values())
     os.makedirs(f"{room}/.git")
     if os.path.exists(f"{root}/HANDLES"):

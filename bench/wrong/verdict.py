@@ -14,6 +14,7 @@ from wrong.kit import LIB, RT
 # The most seconds of one check.
 LIMIT = 5400
 REFUSED, KILLED = "refused", "NO VERDICT: its check was killed, most likely for memory"
+BY_NAME = "refused, but only by a written proof, which names what it takes away"
 LINE = re.compile(r"(?m)^fn (\S+): (.*)$")
 # The line of a function whose own goals aren't proved. Where it goes on with what the function
 # calls, its own goals are told by name.
@@ -22,6 +23,10 @@ OWN = re.compile(
     r"|no proof: expected answers in (?!.*; it calls )"
     r"|no proof: expected answers in .*`search` did not prove `"
 )
+# An error in a written proof: the folder of its function, and what is said.
+IN_PROOF = re.compile(r"(?m)^(?:\./)?proofs/(\S+)/\w+\.antt:\d+:\d+: error: (.*)$")
+# It names what isn't there any more.
+LACKS_NAME = re.compile(r"has no field|is not in scope|has no `|was not admitted")
 
 
 class Ran(NamedTuple):
@@ -97,9 +102,9 @@ class Trial:
         groups."""
         for texts, members in groups_of(self.folder, changes):
             ran = self.check(texts, members)
-            for it, well in zip(members, judged(ran, members)):
-                if well:
-                    yield it, REFUSED, len(members)
+            for it, refused in zip(members, judged(ran, members)):
+                if refused:
+                    yield it, refused, len(members)
                 elif ran.status in (None, -signal.SIGKILL):
                     yield it, kind_of(ran, it), len(members)
                 else:
@@ -110,8 +115,9 @@ class Trial:
         one."""
         texts = applied(self.folder, change.pairs)[0]
         ran = ran or self.check(texts, [change])
-        if judged(ran, [change])[0]:
-            return REFUSED
+        refused = judged(ran, [change])[0]
+        if refused:
+            return refused
         # (a check of one module says nothing of the others, and stops where it has no function)
         says_little = modules_of([change]) and (ran.reached() or ran.status == 2)
         return kind_of(self.check(texts) if says_little else ran, change)
@@ -148,17 +154,39 @@ def names_of_all(change, lines):
     return set().union(*[names_of(change.crate, it, lines) for it in change.places])
 
 
+def unread_in(ran, members):
+    """The first line that says that a text of the crate couldn't be read, or None."""
+    files = {file for it in members for file, _, _ in it.pairs}
+    return next((it for it in ran.text.split("\n") if RT.unread(it, files)), None)
+
+
 def judged(ran, members):
-    """Whether each of these changes, tried together, was refused in its own function. Where it
-    cannot be told which of them a line is of, none was."""
-    if not ran.reached():
-        return [False] * len(members)
+    """How each of these changes, tried together, was refused in its own function, or None where it
+    wasn't. Where it cannot be told which of them a line is of, none was, nor where a text could not
+    be read."""
+    if not ran.reached() or unread_in(ran, members):
+        return [None] * len(members)
     lines, failing = ran.lines(), ran.failing()
     own = [names_of_all(it, lines) for it in members]
     every = [name for names in own for name in names]
     if len(every) > len(set(every)) or failing - set(every) and len(members) > 1:
-        return [False] * len(members)
-    return [bool(names & failing) for names in own]
+        return [None] * len(members)
+    pairs = zip(members, own)
+    return [refused_by(ran, it, names) if names & failing else None for it, names in pairs]
+
+
+def refused_by(ran, change, names):
+    """How the change is refused by these lines of its functions: where all that is said of them is
+    that their written proofs name what it took away, no clause was tried."""
+    if any("`search` did not prove `" in ran.lines()[it] for it in names & ran.failing()):
+        return REFUSED
+    said = [
+        text
+        for folder, text in IN_PROOF.findall(ran.text)
+        for place in change.places
+        if re.fullmatch(rf"{place.module.replace('::', '/')}/?(?:\S+/)?{place.name}", folder)
+    ]
+    return BY_NAME if said and all(LACKS_NAME.search(it) for it in said) else REFUSED
 
 
 def kind_of(ran, change):
@@ -180,10 +208,11 @@ def kind_of(ran, change):
         return f"FUNCTION NOT FOUND: no line of the check is of {names}"
     if ran.status == 0:
         return "NOT REFUSED: the crate is still proved with it"
-    unread = next((it for it in lines if RT.unread(it, {it for it, _, _ in change.pairs})), None)
+    unread = unread_in(ran, [change])
     if unread:
         return f"NOT READ: {unread[:200]}"
-    if judged(ran, [change])[0]:
-        return REFUSED
+    refused = judged(ran, [change])[0]
+    if refused:
+        return refused
     others = ", ".join(sorted(ran.failing())[:3]) or "no function by its own goals"
     return f"ONLY A CALLER REFUSES IT: its own goals are proved, and not those of {others}"

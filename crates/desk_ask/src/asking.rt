@@ -1,6 +1,8 @@
 //! A message is sent to a server, and its reply read.
 
 use crate::Ended;
+use crate::options::Server;
+use crate::proxied::{Seen, seen_in};
 use client_core::{Answered, answer_in};
 use std::io::{self, Read, Write};
 use std::net::TcpStream;
@@ -25,8 +27,8 @@ const FIRST: &[u8] = b"HTTP/1.1 ";
 const NEXT: &[u8] = b"\r\nContent-Type: text/plain; charset=utf-8\r\nContent-Length: ";
 
 /// Sends the message to the server, prints the text of its reply, and gives the exit status.
-pub fn ask(rt: &HostRuntime, server: &str, message: &[u8]) -> Result<u8, Ended> {
-    let Ok(mut stream) = TcpStream::connect(rt, server) else {
+pub fn ask(rt: &HostRuntime, server: &Server, message: &[u8]) -> Result<u8, Ended> {
+    let Ok(mut stream) = TcpStream::connect(rt, server.address.as_str()) else {
         return Err(Ended::NoServer);
     };
     let patience = Some(Duration::from_secs(PATIENCE));
@@ -36,10 +38,21 @@ pub fn ask(rt: &HostRuntime, server: &str, message: &[u8]) -> Result<u8, Ended> 
     // a server may answer and close before it has read all
     let _sent = stream.write_all(message);
     let reply = reply_of(rt, &mut stream)?;
-    match answer_in(rt.alloc(), reply.as_slice()) {
+    let reply = reply.as_slice();
+    match answer_in(rt.alloc(), reply) {
         Ok(Some(told)) => Ok(print(rt, told)),
-        Ok(None) => Err(fault_of(reply.as_slice())),
+        Ok(None) if server.may_be_proxied => Ok(print(rt, proxied_in(reply)?)),
+        Ok(None) => Err(fault_of(reply)),
         Err(_) => Err(Ended::NoMemory),
+    }
+}
+
+/// What a reply tells that a proxy wrote anew.
+fn proxied_in(reply: &[u8]) -> Result<Answered<'_>, Ended> {
+    match seen_in(reply) {
+        Seen::Whole(told) => Ok(told),
+        Seen::Part => Err(Ended::NoReply),
+        Seen::Other => Err(Ended::NoDesk),
     }
 }
 

@@ -21,13 +21,15 @@ pub struct Asked<'w> {
     pub count: Option<u32>,
     /// Whether it prints a line for each message.
     pub log: bool,
+    /// Where it puts copies of its tables.
+    pub copies: Option<&'w str>,
     /// Whether it stands behind a proxy, which tells where messages come from.
     pub proxied: bool,
 }
 
 /// What words ask of the server: `--db FILE --settings FILE --port N` and maybe `--count K`,
-/// `--log` and `--proxy`, in any order. None where they are other words, an option stands there twice, a number
-/// isn't 1 to 10 digits, or is 0 or too great.
+/// `--copies FILE`, `--log` and `--proxy`, in any order. None where they are other words, an option stands
+/// there twice, a number isn't 1 to 10 digits, or is 0 or too great.
 pub fn asked_of<'w>(alloc: Global, words: &'w [String]) -> Option<Asked<'w>> {
     let Ok(command) = command_line(alloc) else {
         return None;
@@ -46,6 +48,7 @@ fn asked_by<'w>(matches: &ArgMatches<'w>) -> Option<Asked<'w>> {
         settings: matches.get_str("settings")?,
         port: port as u16,
         count: count_of(matches.get_str("count"))?,
+        copies: matches.get_str("copies"),
         log: matches.get_flag("log"),
         proxied: matches.get_flag("proxy"),
     })
@@ -78,6 +81,7 @@ fn command_line<'w>(alloc: Global) -> Result<App<'w>, AllocError> {
     let command = command.arg(wanted(alloc, "settings"))?;
     let command = command.arg(wanted(alloc, "port"))?;
     let command = command.arg(option(alloc, "count"))?;
+    let command = command.arg(option(alloc, "copies"))?;
     let command = command.arg(flag(alloc, "log"))?;
     command.arg(flag(alloc, "proxy"))
 }

@@ -1,6 +1,7 @@
 //! A server over tables, on the loopback.
 ghost use Rattle.std.specs.Prelude.{◌≡◌, false};
 
+use crate::copies::FileCopies;
 use crate::options::Asked;
 use desk_program::{open_desk, tell_store_fault};
 use poll_host::PollHost;
@@ -10,9 +11,9 @@ use std::alloc::AllocError;
 use std::io::{self, Write};
 use std::net::SocketAddr;
 use store_core::{Backend, Store, StoreFault};
-use web_core::{WebDesk, serve_web};
+use web_core::{Copies, WebDesk, serve_web};
 
-/// The exit status where as many messages were answered as were to be.
+/// The exit status where as many messages were answered as were to be, or the server was asked to stop.
 const DONE: u8 = 0;
 
 /// The exit status where the port can't be listened on, or a write failed.
@@ -33,7 +34,13 @@ pub fn serve_over<S: Backend + Drop, W: Write>(
 {
     match open_desk(rt.alloc(), Store::adopt(tables), settings, output) {
         Ok(desk) => {
-            let mut web = WebDesk::new(rt.alloc(), desk, asked.proxied);
+            let copies = FileCopies {
+                rt,
+                tables: asked.tables,
+                place: asked.copies,
+                made: 0,
+            };
+            let mut web = WebDesk::new(rt.alloc(), desk, copies, asked.proxied);
             let status = listen(rt, asked, &mut web);
             let (store, _) = web.into_desk().detach();
             (status, Some(store.release()))
@@ -43,7 +50,11 @@ pub fn serve_over<S: Backend + Drop, W: Write>(
 }
 
 /// Listens on the loopback, and serves all who connect.
-fn listen<S: Backend>(rt: &HostRuntime, asked: &Asked<'_>, desk: &mut WebDesk<S>) -> u8 {
+fn listen<S: Backend, C: Copies>(
+    rt: &HostRuntime,
+    asked: &Asked<'_>,
+    desk: &mut WebDesk<S, C>,
+) -> u8 {
     let address = SocketAddr::from(([127, 0, 0, 1], asked.port));
     let Ok(mut host) = PollHost::listen(rt.alloc(), rt, address, asked.log) else {
         return refuse_network(rt);
@@ -56,14 +67,16 @@ fn listen<S: Backend>(rt: &HostRuntime, asked: &Asked<'_>, desk: &mut WebDesk<S>
         Some(count) => u64::from(count),
         None => u64::MAX,
     };
-    tell_ending(rt, serve_web(rt.alloc(), &mut host, desk, PLACES, most))
+    let ended = serve_web(rt.alloc(), &mut host, desk, PLACES, most);
+    tell_ending(rt, ended, desk.is_shut())
 }
 
-/// Prints why the server ended, if not by its count, and answers the exit status.
-fn tell_ending(rt: &HostRuntime, ended: Result<Ending, AllocError>) -> u8 {
+/// Prints why the server ended, if not by its count and not since it was asked to, and answers the exit
+/// status.
+fn tell_ending(rt: &HostRuntime, ended: Result<Ending, AllocError>, is_shut: bool) -> u8 {
     match ended {
-        Ok(Ending::Counted) => DONE,
-        Ok(Ending::Shut) => tell_store_fault(StoreFault::Refused, &mut io::writer(rt)),
+        Ok(Ending::Shut) if is_shut => tell_store_fault(StoreFault::Refused, &mut io::writer(rt)),
+        Ok(Ending::Counted | Ending::Shut) => DONE,
         Ok(Ending::Network | Ending::Spent) | Err(_) => refuse_network(rt),
     }
 }

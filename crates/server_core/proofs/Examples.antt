@@ -1,7 +1,7 @@
 -- Examples of the definitions: which connection gives way to a new one, and for how long a server
 -- waits, by what each of its connections is at.
-use Rattle.std.specs.Prelude.{◌≡◌, refl, ℕ, true, false, List, [], ◌∷◌, codes, Option, Some, None}
-use Rattle.connection_core.specs.Machine.{Conn, answered, closed, lingering, opened}
+use Rattle.std.specs.Prelude.{◌≡◌, refl, List, Option, ℕ, true, false, [], ◌∷◌, codes, Some, None}
+use Rattle.connection_core.specs.Machine.{answered, closed, lingering, opened}
 use Rattle.connection_core.specs.declared.phase.Part.TheVariants.{Blank, Body}
 use Rattle.connection_core.specs.declared.phase.Phase.TheVariants.{Reading, Ready, Writing}
 use Rattle.connection_core.specs.declared.phase.Phase.TheVariants.{Lingering, Closed}

@@ -14,7 +14,7 @@ use Rattle.server_core.specs.Ends.{IsDue}
 use Rattle.server_core.specs.Host.{AppendsLines, KeepsClock, Line, Told, TellsMinute, TellsMoment, wait_fails}
 use Rattle.server_core.specs.Turns.{Answered, IsDone, TakeTurns, TellsLines, at_minute, line_of, logged, somes}
 use Rattle.server_core.specs.Served.{Admits, DoesTurn, EndsAt, GoesOn, IsServed, Runs, Serves}
-use Rattle.server_core.specs.Served.{ServesFrom, TellsAll, Turn, answers, minutes, nows}
+use Rattle.server_core.specs.Served.{ServesFrom, Turn, answers, minutes, nows}
 use Rattle.server_core.specs.Wait.{IsToGiveWay}
 use Rattle.server_core.specs.declared.ending.Ending.{Ending}
 use Rattle.server_core.specs.declared.ending.Ending.TheVariants.{Counted, Network, Shut, Spent}

@@ -1,6 +1,6 @@
 -- What one read and one write do to a connection.
 use Rattle.std.proofs.Common.{◌≡◌, ◌∙◌, ◌⊎◌, inl, inr, ◌≤◌, ◌<◌, ℕ, List, [], ◌∷◌, Option, refl, ap}
-use Rattle.std.proofs.Common.{sym, subst, take, length, arith}
+use Rattle.std.proofs.Common.{sym, take, length, arith}
 use Rattle.std.specs.Io.KnownBytes.{Appends, Consumes, IsAtEnd, Keeps}
 use Rattle.connection_core.specs.Machine.{Conn, Came, Ended, Hears, Wrote, Broke, closed}
 use Rattle.connection_core.specs.Machine.{ended, wrote, wrote_in}

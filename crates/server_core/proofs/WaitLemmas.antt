@@ -6,9 +6,7 @@ use Rattle.std.proofs.lemmas.List.{take_more, take_all, get_or_append_left, get_
 use Rattle.std.proofs.Math.Seq.{get_or-append_seam}
 use Rattle.connection_core.specs.Machine.{Conn, closed}
 use Rattle.connection_core.specs.Seen.{seen}
-use Rattle.connection_core.specs.declared.phase.Phase.{Phase}
-use Rattle.connection_core.specs.declared.phase.Phase.TheVariants.{Reading, Ready, Writing}
-use Rattle.connection_core.specs.declared.phase.Phase.TheVariants.{Lingering, Closed}
+use Rattle.connection_core.specs.declared.phase.Phase.TheVariants.{Closed}
 use Rattle.server_core.specs.Places.{Each, conns}
 use Rattle.server_core.specs.Wait.{IsLongest, IsSoonest, IsToGiveWay, is_of, longer_in, sooner_of}
 use Rattle.server_core.specs.declared.admit.Kind.{Kind}

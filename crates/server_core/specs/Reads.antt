@@ -1,11 +1,13 @@
 -- What one read and one write do.
-use Rattle.std.specs.Prelude.{◌≡◌, ◌≤◌, ◌+◌, ◌-◌, ◌^◌, ◌⊎◌, ℕ, Bool, true, false, List, [], ◌∷◌, Option, Some, None}
+use Rattle.std.specs.Prelude.{◌≡◌, ◌≤◌, ◌-◌, ◌^◌, ◌⊎◌, ℕ, Bool, true, false, List, [], ◌∷◌, Option, Some, None}
 use Rattle.std.specs.Prelude.{min, length, take, ⊤}
 use Rattle.std.specs.Io.KnownBytes.{Appends, Consumes, IsAtEnd, Keeps}
 use Rattle.connection_core.specs.Machine.{Conn, Hears, closed, ended, wrote}
 use Rattle.connection_core.specs.declared.phase.Phase.{Phase}
 use Rattle.connection_core.specs.declared.phase.Phase.TheVariants.{Reading, Ready, Writing, Lingering, Closed}
+use Rattle.connection_core.specs.Seen.{seen}
 use Rattle.server_core.specs.Host.{more}
+use Rattle.server_core.specs.declared.slot.Slot.{Slot}
 use Rattle.server_core.specs.declared.watched.Watched.{Watched}
 
 -- One read. Bytes came, and were taken by what their head states, or the connection is dropped for want of memory; or the peer
@@ -28,7 +30,29 @@ HasWritten now before held failures failed old new =
 abbrev pub KeepsMark : Bool → Bool → ℕ → ℕ → Type 0
 KeepsMark old new failures failed = (new ≡ old) ⊎ ((new ≡ false) × (failed ≡ more failures))
 
+-- the mark of a write: only by a call that failed, or that took nothing
+abbrev pub KeepsWritable : Bool → Bool → ℕ → ℕ → Option (List ℕ) → Option (List ℕ) → Type 0
+KeepsWritable old new failures failed before held =
+    KeepsMark old new failures failed ⊎ ((new ≡ false) × Appends before held [])
+
 -- ---- of a place
+
+-- nothing was read at a place, or its stream once: no byte comes but from there
+abbrev pub HasReadAt : {S : Type 0} → (List ℕ → Option ℕ → Type 0) → (S → Option (List ℕ))
+    → Slot S → Slot S → Type 0
+HasReadAt {S} States remaining old new =
+    (new ≡ old)
+    ⊎ ((was : Watched S) × (is : Watched S) × (old.stream ≡ Some was) × (new.stream ≡ Some is)
+    × HasRead States (remaining was.stream) (remaining is.stream) was.failures is.failures
+    (seen old.connection) (seen new.connection))
+
+-- nothing was written at a place, or to its stream once, at this moment
+abbrev pub HasWrittenAt : {S : Type 0} → ℕ → (S → Option (List ℕ)) → Slot S → Slot S → Type 0
+HasWrittenAt {S} now contents old new =
+    (new ≡ old)
+    ⊎ ((was : Watched S) × (is : Watched S) × (old.stream ≡ Some was) × (new.stream ≡ Some is)
+    × HasWritten now (contents was.stream) (contents is.stream) was.failures is.failures
+    (seen old.connection) (seen new.connection))
 
 -- what comes is looked at
 abbrev pub listens : Phase → Bool
@@ -44,9 +68,16 @@ ReadsOnce None new = ⊤
 ReadsOnce (Some old) None = ⊤
 ReadsOnce (Some old) (Some new) = more old.reads ≤ new.reads
 
--- no read is undone
-abbrev pub ReadsOn : {S : Type 0} → Option (Watched S) → Option (Watched S) → Type 0
-ReadsOn None None = ⊤
-ReadsOn None (Some new) = ⊥
-ReadsOn (Some old) None = ⊤
-ReadsOn (Some old) (Some new) = min old.reads (2 ^ 64 - 1) ≤ new.reads
+-- its stream was written at least once, if it has one
+abbrev pub WritesOnce : {S : Type 0} → Option (Watched S) → Option (Watched S) → Type 0
+WritesOnce None new = ⊤
+WritesOnce (Some old) None = ⊤
+WritesOnce (Some old) (Some new) = more old.writes ≤ new.writes
+
+-- no read and no write is undone
+abbrev pub UndoesNone : {S : Type 0} → Option (Watched S) → Option (Watched S) → Type 0
+UndoesNone None None = ⊤
+UndoesNone None (Some new) = ⊥
+UndoesNone (Some old) None = ⊤
+UndoesNone (Some old) (Some new) =
+    (min old.reads (2 ^ 64 - 1) ≤ new.reads) × (min old.writes (2 ^ 64 - 1) ≤ new.writes)

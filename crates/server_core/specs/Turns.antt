@@ -1,5 +1,5 @@
 -- What happens to connections and to the desk in a turn of the server.
-use Rattle.std.specs.Prelude.{◌≡◌, ◌<◌, ◌⊎◌, ℕ, Bool, true, List, [], ◌∷◌, Option, ⊤}
+use Rattle.std.specs.Prelude.{◌≡◌, ◌<◌, ◌⊎◌, ℕ, true, List, [], ◌∷◌, Option, ⊤}
 use Rattle.std.specs.Prelude.{Some, None, length, map}
 use Rattle.connection_core.specs.Machine.{AreTold, Conn, Event, Came, Ended, Wrote, Broke, Passed}
 use Rattle.connection_core.specs.Machine.{Settled, afters, answered}

@@ -1,6 +1,6 @@
 //! What a server needs of the system.
-ghost use Rattle.std.specs.Prelude.{◌≡◌, OnOk, OnErr};
-ghost use Rattle.server_core.specs.Host.{Told, TellsLine, TellsMinute, TellsMoment};
+ghost use Rattle.std.specs.Prelude.{◌≡◌, ℕ, None, Option, OnOk, OnErr};
+ghost use Rattle.server_core.specs.Host.{IsPaused, Told, TellsLine, TellsMinute, TellsMoment};
 ghost use Rattle.server_core.specs.Host.{accept_fails, accept_works, wait_fails};
 
 use std::io::{Read, Write};
@@ -24,6 +24,9 @@ pub trait Host {
     /// What it has told: which calls have failed, the moments and minutes of turns, and its log.
     ghost told: { Self → Told };
 
+    /// The pause that it was last asked for, where it keeps that.
+    ghost paused: { Self → Option ℕ } = { λ _. None };
+
     /// The next connection that waits, if one does. From then on it is watched under this place.
     fn accept(&mut self, place: usize) -> Result<Option<Self::Stream>, NetFault>
         ensures ok { OnOk result (told self.new ≡ accept_works (told self.old)) }
@@ -37,7 +40,8 @@ pub trait Host {
     /// last call, each at its place. Whether a connection may wait.
     fn wait(&mut self, milliseconds: u64, marks: &mut [Mark]) -> Result<bool, NetFault>
         ensures ok { OnOk result (told self.new ≡ told self.old) }
-        ensures err { OnErr result (told self.new ≡ wait_fails (told self.old)) };
+        ensures err { OnErr result (told self.new ≡ wait_fails (told self.old)) }
+        ensures paused { IsPaused (paused self.new) milliseconds };
 
     /// Microseconds from some moment on.
     fn micros(&mut self) -> u64

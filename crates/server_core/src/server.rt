@@ -2,7 +2,7 @@
 ghost use Rattle.std.specs.Prelude.{◌≡◌, ◌≤◌, ◌<◌, ◌-◌, false, true, ℕ, List, IfOk, IfSome, IsTrue, OnErr};
 ghost use Rattle.std.specs.Prelude.{OnOk, length, replicate};
 ghost use Rattle.connection_core.specs.Machine.{closed};
-ghost use Rattle.server_core.specs.Host.{KeepsClock, wait_fails};
+ghost use Rattle.server_core.specs.Host.{IsPaused, KeepsClock, wait_fails};
 ghost use Rattle.server_core.specs.Places.{Each, HasFree, conns};
 ghost use Rattle.server_core.specs.Served.{Admits, GoesOn, IsServed, IsStill};
 ghost use Rattle.server_core.specs.Ends.{IsDue};
@@ -131,6 +131,8 @@ fn wait<H: Host>(
     requires { length slots.now ≤ length marks.old }
     ensures ok { OnOk result (H.told host.new ≡ H.told host.old) }
     ensures err { OnErr result (H.told host.new ≡ wait_fails (H.told host.old)) }
+    ensures paused { (now : ℕ) × IsPaused (H.paused host.new) (wait.pauses (wait.is_full queue) now
+        (wait.begins queue) (conns slots.now) marks.old) }
 {
     let now = host.micros() / 1000;
     let pause = pause_of(slots, marks, queue, now);

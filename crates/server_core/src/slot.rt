@@ -2,7 +2,7 @@
 ghost use Rattle.std.specs.Prelude.{◌≡◌, ◌<◌, ℕ, length};
 ghost use Rattle.connection_core.specs.Seen.{seen};
 ghost use Rattle.server_core.specs.Host.{more};
-ghost use Rattle.server_core.specs.Reads.{HasRead, HasWritten, KeepsMark};
+ghost use Rattle.server_core.specs.Reads.{HasRead, HasWritten, KeepsMark, KeepsWritable};
 
 use crate::host::Mark;
 use crate::watched::Watched;
@@ -31,6 +31,7 @@ pub fn read_some<F: Framing, S: Read>(
         (S.remaining stream.new.stream) stream.old.failures stream.new.failures
         (seen connection.old) (seen connection.new) }
     ensures reads { stream.new.reads ≡ more stream.old.reads }
+    ensures writes { stream.new.writes ≡ stream.old.writes }
     ensures readable { KeepsMark mark.old.readable mark.new.readable stream.old.failures
         stream.new.failures }
     ensures writable { mark.new.writable ≡ mark.old.writable }
@@ -63,10 +64,15 @@ pub fn write_some<S: Write>(
         stream.old.failures stream.new.failures (seen connection.old) (seen connection.new) }
     ensures writes { stream.new.writes ≡ more stream.old.writes }
     ensures reads { stream.new.reads ≡ stream.old.reads }
+    ensures writable { KeepsWritable mark.old.writable mark.new.writable stream.old.failures
+        stream.new.failures (S.contents stream.old.stream) (S.contents stream.new.stream) }
+    ensures readable { mark.new.readable ≡ mark.old.readable }
 {
     match stream.write(connection.left()) {
         Ok(count) => {
-            mark.writable = count > 0;
+            if count == 0 {
+                mark.writable = false;
+            }
             connection.wrote(alloc, count, now);
         }
         Err(fault) => match fault.kind() {

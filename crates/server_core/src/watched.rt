@@ -44,6 +44,7 @@ impl<S: Read> Watched<S> {
         ensures bytes { ReadConsumes (S.remaining self.old.stream) (S.remaining self.new.stream) result
             buffer.new }
         ensures reads { self.new.reads ≡ more self.old.reads }
+        ensures writes { self.new.writes ≡ self.old.writes }
         ensures ok { OnOk result (self.new.failures ≡ self.old.failures) }
         ensures err { OnErr result (self.new.failures ≡ more self.old.failures) }
     {

@@ -1,8 +1,9 @@
 //! The turn of one connection.
-ghost use Rattle.std.specs.Prelude.{◌≡◌, ◌≢◌, ◌<◌, ℕ, true, Option, is_some, length};
+ghost use Rattle.std.specs.Prelude.{◌≡◌, ◌≢◌, ◌<◌, ℕ, false, true, Option, is_some, length};
 ghost use Rattle.connection_core.specs.Machine.{passed};
 ghost use Rattle.connection_core.specs.Seen.{seen};
-ghost use Rattle.server_core.specs.Reads.{ReadsOn, ReadsOnce, listens};
+ghost use Rattle.server_core.specs.Reads.{HasReadAt, HasWrittenAt, ReadsOnce, UndoesNone};
+ghost use Rattle.server_core.specs.Reads.{WritesOnce, listens};
 ghost use Rattle.server_core.specs.Turns.{Answered, IsDone, IsSettled, Moves, TakesTurn, at_minute, logged};
 
 use crate::desk::Desk;
@@ -20,7 +21,7 @@ pub struct Moment {
 }
 
 /// Reads once, if something may have come that is still looked at.
-#[tactic(auto, using(crate::proofs::TurnLemmas::moves_none, crate::proofs::StreamLemmas::moves_read, crate::proofs::ReadLemmas::is_read, crate::proofs::ReadLemmas::stays_read, crate::proofs::ReadLemmas::reads_on))]
+#[tactic(auto, using(crate::proofs::TurnLemmas::moves_none, crate::proofs::StreamLemmas::moves_read, crate::proofs::ReadLemmas::is_read, crate::proofs::ReadLemmas::stays, crate::proofs::ReadLemmas::reads_on))]
 fn receive<F: Framing, S: Read>(
     alloc: Global,
     slot: &mut Slot<S>,
@@ -32,7 +33,10 @@ fn receive<F: Framing, S: Read>(
         (seen slot.new.connection) }
     ensures read { mark.old.readable ≡ true → listens (seen slot.old.connection).phase ≡ true
         → ReadsOnce slot.old.stream slot.new.stream }
-    ensures on { ReadsOn slot.old.stream slot.new.stream }
+    ensures on { UndoesNone slot.old.stream slot.new.stream }
+    ensures heard { HasReadAt F.States S.remaining slot.old slot.new }
+    ensures deaf { listens (seen slot.old.connection).phase ≡ false
+        → (slot.new ≡ slot.old) × (mark.new ≡ mark.old) }
 {
     match slot.connection.phase() {
         Phase::Reading(_) | Phase::Lingering => {
@@ -61,6 +65,7 @@ fn answer<H: Host, D: Desk>(
         (seen connection.old) (desk.old, H.told host.old) (seen connection.new) (desk.new, H.told host.new) }
     ensures asked { result ≡ true → may ≡ true }
     ensures unready { may ≡ true → (seen connection.new).phase ≢ Phase.Ready }
+    ensures stays { (seen connection.old).phase ≢ Phase.Ready → connection.new ≡ connection.old }
 {
     if !may {
         return false;
@@ -90,10 +95,10 @@ fn shut_if_written<H: Host>(host: &mut H, slot: &Slot<H::Stream>)
 }
 
 /// Drops the connection if its deadline has come, and its stream where it is over.
-#[tactic(auto, using(crate::proofs::ReadLemmas::none_on, crate::proofs::ReadLemmas::stays_read))]
+#[tactic(auto, using(crate::proofs::ReadLemmas::none_on, crate::proofs::ReadLemmas::stays))]
 fn finish<S: Drop>(alloc: Global, slot: &mut Slot<S>, now: u64)
     ensures passed { seen slot.new.connection ≡ passed (seen slot.old.connection) now }
-    ensures on { ReadsOn slot.old.stream slot.new.stream }
+    ensures on { UndoesNone slot.old.stream slot.new.stream }
 {
     slot.connection.pass(alloc, now);
     if let Phase::Closed = slot.connection.phase() {
@@ -102,11 +107,13 @@ fn finish<S: Drop>(alloc: Global, slot: &mut Slot<S>, now: u64)
 }
 
 /// One write to its stream.
-#[tactic(auto, using(crate::proofs::TurnLemmas::moves_none, crate::proofs::ReadLemmas::stays_read))]
+#[tactic(auto, using(crate::proofs::TurnLemmas::moves_none, crate::proofs::ReadLemmas::stays))]
 fn write_at<F: Framing, S: Write>(alloc: Global, slot: &mut Slot<S>, mark: &mut Mark, now: u64)
     requires { (seen slot.old.connection).phase ≡ Phase.Writing }
     ensures moves { Moves F.States now (seen slot.old.connection) (seen slot.new.connection) }
-    ensures on { ReadsOn slot.old.stream slot.new.stream }
+    ensures on { UndoesNone slot.old.stream slot.new.stream }
+    ensures written { WritesOnce slot.old.stream slot.new.stream }
+    ensures told { HasWrittenAt now S.contents slot.old slot.new }
 {
     if let Some(stream) = &mut slot.stream {
         write_some::<S>(alloc, stream, &mut slot.connection, mark, now);
@@ -114,7 +121,7 @@ fn write_at<F: Framing, S: Write>(alloc: Global, slot: &mut Slot<S>, mark: &mut 
 }
 
 /// Writes once, if something is left to write and may be taken.
-#[tactic(auto, using(crate::proofs::TurnLemmas::moves_none, crate::proofs::TurnLemmas::writing_unready, crate::proofs::ReadLemmas::stays_read, crate::proofs::ReadLemmas::same_on))]
+#[tactic(auto, using(crate::proofs::TurnLemmas::moves_none, crate::proofs::TurnLemmas::writing_unready, crate::proofs::ReadLemmas::stays))]
 fn send<F: Framing, H: Host>(
     alloc: Global,
     host: &mut H,
@@ -126,7 +133,9 @@ fn send<F: Framing, H: Host>(
     ensures unready { (seen slot.old.connection).phase ≢ Phase.Ready
         → (seen slot.new.connection).phase ≢ Phase.Ready }
     ensures kept { H.told host.new ≡ H.told host.old }
-    ensures on { ReadsOn slot.old.stream slot.new.stream }
+    ensures on { UndoesNone slot.old.stream slot.new.stream }
+    ensures written { mark.old.writable ≡ true → (seen slot.old.connection).phase ≡ Phase.Writing
+        → WritesOnce slot.old.stream slot.new.stream }
 {
     match slot.connection.phase() {
         Phase::Writing => {
@@ -141,7 +150,7 @@ fn send<F: Framing, H: Host>(
 
 /// Where the reply has gone out, what still waits is read and dropped, once. Where nothing does, and
 /// the message was whole, the connection is over.
-#[tactic(auto, using(crate::proofs::TurnLemmas::moves_none, crate::proofs::TurnLemmas::moves_settled, crate::proofs::TurnLemmas::settled_settled, crate::proofs::TurnLemmas::settled_unready, crate::proofs::ReadLemmas::stays_read))]
+#[tactic(auto, using(crate::proofs::TurnLemmas::moves_none, crate::proofs::TurnLemmas::moves_settled, crate::proofs::TurnLemmas::settled_settled, crate::proofs::TurnLemmas::settled_unready, crate::proofs::ReadLemmas::stays))]
 fn settle<F: Framing, S: Read>(
     alloc: Global,
     slot: &mut Slot<S>,
@@ -149,7 +158,7 @@ fn settle<F: Framing, S: Read>(
     buffer: &mut [u8],
 )
     requires { 0 < length buffer.old }
-    ensures on { ReadsOn slot.old.stream slot.new.stream }
+    ensures on { UndoesNone slot.old.stream slot.new.stream }
     ensures moves { (now : ℕ) → Moves F.States now (seen slot.old.connection)
         (seen slot.new.connection) }
     ensures settled { IsSettled (seen slot.new.connection) }
@@ -182,6 +191,8 @@ pub(crate) fn work<H: Host, D: Desk>(
     requires { 0 < length buffer.old }
     ensures read { mark.old.readable ≡ true → listens (seen slot.old.connection).phase ≡ true
         → ReadsOnce slot.old.stream slot.new.stream }
+    ensures written { mark.old.writable ≡ true → (seen slot.old.connection).phase ≡ Phase.Writing
+        → WritesOnce slot.old.stream slot.new.stream }
     ensures turn { (a : Option Answered) × (is_some a ≡ result)
         × TakesTurn D.States (logged (at_minute moment.minute D.Steps)) moment.now a
         (seen slot.old.connection) (desk.old, H.told host.old) (seen slot.new.connection) (desk.new, H.told host.new) }

@@ -1,4 +1,4 @@
+pub mod MessageLemmas
 pub mod NoteLemmas
 pub mod RunLemmas
 pub mod StepLemmas
-pub mod Unavailable

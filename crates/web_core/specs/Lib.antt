@@ -1,3 +1,4 @@
+pub mod Control
 pub mod Messages
 pub mod Notes
 pub mod Shut

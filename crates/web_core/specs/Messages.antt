@@ -1,27 +1,55 @@
 -- What a message does to a desk over tables, as a server of many connections sees it.
-use Rattle.std.specs.Prelude.{◌≡◌, ℕ, List, [], ◌∷◌}
+use Rattle.std.specs.Prelude.{◌≡◌, ◌⊎◌, ℕ, Bool, false, List, [], ◌∷◌, Result}
 use Rattle.sqlite.specs.State.{State}
 use Rattle.settings_core.specs.declared.settings.Settings.{Settings}
 use Rattle.desk_model.specs.Desk.{Desk}
 use Rattle.service_core.specs.TableSteps.{LeadsOn}
 use Rattle.store_tables.specs.Calls.{Lasts, WasClean}
+use Rattle.message_core.specs.Reply.{bytes_of}
+use Rattle.message_core.specs.declared.fault.WireFault.{WireFault}
+use Rattle.message_core.specs.declared.request.Request.{Request}
 use Rattle.wire_core.specs.Runs.{Sent}
-use Rattle.page_wire.specs.Steps.{IsAnsweredOn, IsAnswerTo}
+use Rattle.wire_core.specs.Steps.{LeavesOut}
+use Rattle.page_wire.specs.Steps.{IsReadOf, SentSteps}
 use Rattle.server_core.specs.Turns.{Answered}
+use Rattle.web_core.specs.Control.{control_of, copy_told, stop_reply}
+use Rattle.web_core.specs.declared.control.Control.{Control}
+use Rattle.web_core.specs.declared.control.Control.TheVariants.{Nothing, Stop, Copy}
 
 abbrev pub sent_of : Answered → Sent
 sent_of a = (a.at, a.message)
 
+-- The step of what was read. What is asked of the server itself is told, whether a copy was made or
+-- not, and the desk stays; any other message is answered by the pages or the interface.
+abbrev pub TakenSteps : Settings → ℕ → Bool → Result Request WireFault → Control → Desk → List ℕ
+    → Desk → Type 0
+TakenSteps settings at copied read Nothing old bytes new = SentSteps settings at read old bytes new
+TakenSteps settings at copied read Stop old bytes new =
+    (bytes ≡ bytes_of stop_reply) × (new ≡ old)
+TakenSteps settings at copied read Copy old bytes new =
+    (bytes ≡ bytes_of (copy_told copied)) × (new ≡ old)
+
+-- the step of a message: it is left out where there was no memory to read it
+unfoldable pub IsReplyTo : Settings → Sent → Desk → List ℕ → Desk → Type 0
+IsReplyTo settings sent old bytes new =
+    LeavesOut false old bytes new
+    ⊎ ((read : Result Request WireFault) × (copied : Bool) × IsReadOf sent.1 read
+    × TakenSteps settings sent.0 copied read (control_of settings read) old bytes new)
+
+abbrev pub IsRepliedOn : Settings → Sent → List ℕ → State → State → Type 0
+IsRepliedOn settings sent bytes =
+    LeadsOn settings (λ desk after. IsReplyTo settings sent desk bytes after)
+
 -- its step, in tables whose disk told of no fault that it now hides, under the same settings
 abbrev pub StepsAt : Settings → State → Answered → State → Type 0
 StepsAt settings old a new =
-    IsAnsweredOn settings (sent_of a) a.reply old new × WasClean old new × Lasts old new
+    IsRepliedOn settings (sent_of a) a.reply old new × WasClean old new × Lasts old new
 
 -- one after the other, each from the desk that the message before left, and with its reply
 abbrev pub RunsAnswers : Settings → Desk → List Answered → Desk → Type 0
 RunsAnswers settings old [] new = new ≡ old
 RunsAnswers settings old (a ∷ rest) new =
-    (mid : Desk) × IsAnswerTo settings (sent_of a) old a.reply mid
+    (mid : Desk) × IsReplyTo settings (sent_of a) old a.reply mid
     × RunsAnswers settings mid rest new
 
 abbrev pub RunsAnswersOn : Settings → List Answered → State → State → Type 0

@@ -1,20 +1,17 @@
 -- What the log notes of a message.
-use Rattle.std.specs.Prelude.{◌≡◌, ◌≢◌, ◌⊎◌, ℕ, Bool, if◌then◌else◌, List, [], Option, Some, None, unwrap_or}
+use Rattle.std.specs.Prelude.{◌≡◌, ◌⊎◌, ℕ, Bool, if◌then◌else◌, List, [], Option, Some, None, unwrap_or}
 use Rattle.std.specs.Prelude.{Result, Ok, Err, codes}
 use Rattle.httparse.specs.Grammar.{RequestHead}
 use Rattle.settings_core.specs.declared.settings.Settings.{Settings}
 use Rattle.message_core.specs.Head.{StartsWith}
 use Rattle.message_core.specs.Request.{value_in, values_in}
 use Rattle.message_core.specs.declared.fault.WireFault.{WireFault}
-use Rattle.message_core.specs.declared.fault.WireFault.TheVariants.{NoMemory}
 use Rattle.message_core.specs.declared.message.Message.{Message}
 use Rattle.message_core.specs.declared.request.Request.{Request}
 use Rattle.route_core.specs.Commands as interface
 use Rattle.page_routes.specs.Places.{is_page_path, path_in}
 use Rattle.page_routes.specs.Visits as pages
-use Rattle.page_wire.specs.Steps.{IsReadOf}
 use Rattle.log_core.specs.Log.{note_text}
-use Rattle.server_core.specs.Turns.{Answered}
 
 -- where it comes from, if a proxy stands in front and tells
 abbrev pub forwarded_in : Bool → RequestHead → List ℕ
@@ -41,9 +38,3 @@ NotesRead proxied settings (Ok request) reply note =
 abbrev pub IsNote : Bool → Settings → Result Request WireFault → List ℕ → List ℕ → Type 0
 IsNote proxied settings read reply note =
     (note ≡ []) ⊎ NotesRead proxied settings read reply note
-
--- the note of a message that was answered is that of what its bytes were read as
-abbrev pub IsNoted : Bool → Settings → Answered → Type 0
-IsNoted proxied settings a =
-    (read : Result Request WireFault) × (read ≢ Err NoMemory → IsReadOf a.message read)
-    × IsNote proxied settings read a.reply a.note

@@ -1,4 +1,4 @@
-//! A desk over tables that answers messages, and whether its store is shut.
+//! A desk over tables that answers messages, and whether it is served on.
 ghost use Rattle.std.specs.Prelude.{◌≡◌, false, true};
 ghost use Rattle.service_core.specs.Seen.{tables_of};
 ghost use Rattle.web_core.specs.Shut.{IsShut};
@@ -8,34 +8,48 @@ use std::alloc::Global;
 use store_core::Backend;
 use wire_core::Routes;
 
-/// A desk over tables, and whether it was seen that its store is shut: a fault of the disk shuts that
-/// for good, and then no command is done any more. Behind a proxy the log notes the address that the
-/// proxy tells.
+/// A desk over tables, and what copies them; whether it was seen that its store is shut, and whether
+/// somebody who may has asked the server to stop. A fault of the disk shuts a store for good, and then
+/// no command is done any more. Behind a proxy the log notes the address that the proxy tells.
 #[derive(Drop)]
-pub struct WebDesk<S: Backend> {
+pub struct WebDesk<S: Backend, C> {
     pub(crate) desk: Desk<S>,
     pub(crate) routes: Option<Routes>,
+    pub(crate) copies: C,
     pub(crate) is_shut: bool,
+    pub(crate) stops: bool,
     pub(crate) proxied: bool,
     ghost seen: { is_shut ≡ true → IsShut (tables_of S.Store desk) },
 }
 
-impl<S: Backend> WebDesk<S> {
-    /// The desk, whose store counts as open, and the router of its paths. Where there is no memory
-    /// for that one the paths are gone over without it.
-    pub fn new(alloc: Global, desk: Desk<S>, proxied: bool) -> WebDesk<S>
+impl<S: Backend, C> WebDesk<S, C> {
+    /// The desk, whose store counts as open and which nobody has asked to stop, and the router of its
+    /// paths. Where there is no memory for that one the paths are gone over without it.
+    pub fn new(alloc: Global, desk: Desk<S>, copies: C, proxied: bool) -> WebDesk<S, C>
         ensures desk { result.desk ≡ desk }
         ensures open { result.is_shut ≡ false }
+        ensures goes { result.stops ≡ false }
         ensures proxied { result.proxied ≡ proxied }
     {
         WebDesk {
             desk,
             routes: Routes::new(alloc).ok(),
+            copies,
             is_shut: false,
+            stops: false,
             proxied,
         }
     }
 
+    /// Whether it was seen that the store is shut.
+    pub fn is_shut(&self) -> bool
+        ensures { result ≡ self.now.is_shut }
+    {
+        self.is_shut
+    }
+}
+
+impl<S: Backend, C: Drop> WebDesk<S, C> {
     /// The desk. Takes no memory.
     pub fn into_desk(self) -> Desk<S>
         ensures { result ≡ self.desk }

@@ -6,17 +6,20 @@ ghost use Rattle.server_core.specs.Served.{Serves, Turn, answers};
 ghost use Rattle.message_core.specs.Stated.{States};
 ghost use Rattle.message_core.specs.declared.limits.BodyLimit.TheVariants.{ByPlace};
 ghost use Rattle.web_core.specs.Web as web;
+ghost use Rattle.web_core.specs.declared.desk.WebDesk.{WebDesk as Held};
 
+use crate::copies::Copies;
 use crate::desk::WebDesk;
 use server_core::laws;
 use store_core::Backend;
 
 /// No more is held than 270,336 bytes of a message and those of the longest reply for each place.
-pub fn memory_law<S: Backend>()
-    ensures { (places most bytes : ℕ) (turns : List Turn) (news : List Conn) (desk next : _)
-        → Serves (States ByPlace) (web.Steps S.Store) (web.shuts S.Store) most turns
+pub fn memory_law<S: Backend, C: Copies>()
+    ensures { (places most bytes : ℕ) (turns : List Turn) (news : List Conn)
+        (desk next : Held S C S.Store)
+        → Serves (States ByPlace) (web.Steps S.Store C.made) (web.shuts S.Store) most turns
         (replicate places closed) desk news next
         → AllOf (IsAtMost bytes) (answers turns) → held news ≤ places * (270336 + bytes) }
 {
-    laws::memory_law::<WebDesk<S>>();
+    laws::memory_law::<WebDesk<S, C>>();
 }

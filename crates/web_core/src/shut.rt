@@ -1,34 +1,34 @@
 //! Whether the store under a desk is shut.
-ghost use Rattle.std.specs.Prelude.{◌≡◌, true};
+ghost use Rattle.std.specs.Prelude.{◌≡◌, Ok, IfOk, not, true};
 ghost use Rattle.service_core.specs.Seen.{settings_of, tables_of};
+ghost use Rattle.sqlite.specs.State.{HasCleanDisk};
 ghost use Rattle.store_tables.specs.Calls.{Spares};
 ghost use Rattle.web_core.specs.Shut.{IsShut};
 
-use connection_core::Reply;
+use desk_core::Refusal;
 use service_core::Desk;
 use store_core::Backend;
 
-/// Whether the store is shut, after this reply: only one of the code 503 is cause to look.
-pub(crate) fn is_shut_after<S: Backend>(reply: &Reply, desk: &mut Desk<S>) -> bool
-    ensures shut { result ≡ true → IsShut (tables_of S.Store desk.new) }
+/// Whether the store is shut. `Unavailable` where memory or the store refuses to tell. It asks the
+/// store for a row.
+fn is_shut<S: Backend>(desk: &mut Desk<S>) -> Result<bool, Refusal>
+    ensures told { HasCleanDisk (tables_of S.Store desk.new)
+        → IfOk result (λ shut. shut ≡ not (tables_of S.Store desk.old).is_open) }
+    ensures shut { result ≡ Ok true → IsShut (tables_of S.Store desk.new) }
     ensures kept { Spares (tables_of S.Store desk.old) (tables_of S.Store desk.new) }
     ensures same { settings_of S.Store desk.new ≡ settings_of S.Store desk.old }
 {
-    if reply.bytes().starts_with(b"HTTP/1.1 503 ") {
-        is_shut(desk)
-    } else {
-        false
-    }
+    Ok(!desk.is_open()?)
 }
 
-/// Whether the store is shut; not, where it can't be told.
-fn is_shut<S: Backend>(desk: &mut Desk<S>) -> bool
+/// Whether it was told that the store is shut; not, where it can't be told.
+pub(crate) fn is_seen_shut<S: Backend>(desk: &mut Desk<S>) -> bool
     ensures shut { result ≡ true → IsShut (tables_of S.Store desk.new) }
     ensures kept { Spares (tables_of S.Store desk.old) (tables_of S.Store desk.new) }
     ensures same { settings_of S.Store desk.new ≡ settings_of S.Store desk.old }
 {
-    match desk.is_open() {
-        Ok(live) => !live,
+    match is_shut(desk) {
+        Ok(shut) => shut,
         Err(_) => false,
     }
 }

@@ -1,5 +1,5 @@
 -- each so far is
-use Rattle.std.proofs.Common.{◌≡◌, take}
+use Rattle.std.proofs.Common.{take}
 use Rattle.server_core.specs.Places.{Each, conns}
 use Rattle.server_core.specs.Served.{IsStill}
 use Rattle.server_core.proofs.server.is_still.Given as goal

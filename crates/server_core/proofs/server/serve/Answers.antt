@@ -1,5 +1,5 @@
 -- the places are as many as were asked for, and have a mark each
-use Rattle.std.proofs.Common.{◌≡◌, ◌∙◌, ℕ, true, ap, subst, replicate, arith}
+use Rattle.std.proofs.Common.{◌≡◌, ◌∙◌, ℕ, ap, subst, replicate, arith}
 use Rattle.connection_core.specs.Machine.{closed}
 use Rattle.server_core.specs.Places.{conns}
 use Rattle.server_core.specs.Served.{IsServed}

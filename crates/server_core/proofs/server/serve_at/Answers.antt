@@ -1,9 +1,9 @@
 -- one turn more
-use Rattle.std.proofs.Common.{◌≡◌, ◌≤◌, ◌+◌, ◌∙◌, arith, length, refl, sym, subst}
+use Rattle.std.proofs.Common.{◌≤◌, ◌+◌, arith, length, refl, sym, subst}
 use Rattle.server_core.specs.Places.{conns}
 use Rattle.server_core.specs.Host.{Told}
 use Rattle.server_core.specs.Served.{ServesFrom}
-use Rattle.server_core.proofs.ServedLemmas.{served_at, served_spent, served_waits, serves_on}
+use Rattle.server_core.proofs.ServedLemmas.{served_at, served_waits, serves_on}
 use Rattle.server_core.proofs.server.serve_at.Goals as goal
 
 pub loop-turn-preserved : goal.loop-turn-preserved

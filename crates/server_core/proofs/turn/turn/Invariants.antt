@@ -1,5 +1,5 @@
 -- the connections so far have had their turn
-use Rattle.std.proofs.Common.{◌≡◌, ◌≢◌, ◌≤◌, ◌<◌, take}
+use Rattle.std.proofs.Common.{◌≢◌, ◌≤◌, ◌<◌, take}
 use Rattle.connection_core.specs.declared.phase.Phase.TheVariants.{Ready}
 use Rattle.server_core.specs.Places.{Each, SoFar, conns}
 use Rattle.server_core.specs.Turns.{IsDone, at_minute, logged}

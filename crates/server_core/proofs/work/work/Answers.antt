@@ -1,7 +1,10 @@
 -- its turn is that of its message, between what it reads and what it writes
+use Rattle.std.proofs.Common.{◌≡◌, ◌∙◌, ap, subst, sym}
 use Rattle.connection_core.specs.Seen.{seen}
+use Rattle.connection_core.specs.declared.phase.Phase.TheVariants.{Ready, Writing}
+use Rattle.server_core.specs.Reads.{WritesOnce, listens}
 use Rattle.server_core.specs.Turns.{at_minute, logged}
-use Rattle.server_core.proofs.ReadLemmas.{both_on, once_on}
+use Rattle.server_core.proofs.ReadLemmas.{both_on, once_on, written_on}
 use Rattle.server_core.proofs.TurnLemmas.{moves_both, moves_passed, turn_told, turn_within}
 use Rattle.server_core.proofs.work.work.Goals as goal
 
@@ -32,3 +35,19 @@ returns-clause-read g c marked listening =
     c.send.ensures.on
     (both_on c.send.new.slot.stream c.settle.new.slot.stream c.finish.new.slot.stream
     c.settle.ensures.on c.finish.ensures.on))
+
+-- where its reply goes out and its mark says so, it writes, and nothing of that is undone
+pub returns-clause-written : goal.returns-clause-written
+returns-clause-written g c marked writing =
+    let deaf = c.receive.ensures.deaf (ap listens writing) in
+    let mid : (seen c.receive.new.slot.connection).phase ≡ Writing =
+    ap (λ slot. (seen slot.connection).phase) deaf.0 ∙ writing in
+    let same = c.answer-answered.ensures.stays
+    (λ ready. let no : Writing ≡ Ready = sym mid ∙ ready in cc) in
+    written_on c.args.slot.now.stream c.send.new.slot.stream c.finish.new.slot.stream
+    (subst (λ stream. WritesOnce stream c.send.new.slot.stream)
+    (ap (λ slot. slot.stream) deaf.0)
+    (c.send.ensures.written (ap (λ mark. mark.writable) deaf.1 ∙ marked)
+    (ap (λ connection. (seen connection).phase) same ∙ mid)))
+    (both_on c.send.new.slot.stream c.settle.new.slot.stream c.finish.new.slot.stream
+    c.settle.ensures.on c.finish.ensures.on)

@@ -1,5 +1,6 @@
 -- what was written is an event
-use Rattle.server_core.proofs.ReadLemmas.{same_on}
+use Rattle.std.proofs.Common.{inr, refl}
+use Rattle.server_core.proofs.ReadLemmas.{is_written, writes_on}
 use Rattle.server_core.proofs.StreamLemmas.{moves_written}
 use Rattle.server_core.proofs.work.write_at.Goals as goal
 
@@ -9,5 +10,14 @@ returns-in-Some-clause-moves g c =
 
 pub returns-in-Some-clause-on : goal.returns-in-Some-clause-on
 returns-in-Some-clause-on g c =
-    same_on c.args.slot.now.stream c.in-Some.stream c.write_some.new.stream c.in-Some.is
-    c.write_some.ensures.reads
+    writes_on c.args.slot.now.stream c.in-Some.stream c.write_some.new.stream c.in-Some.is
+    c.write_some.ensures.writes c.write_some.ensures.reads
+
+pub returns-in-Some-clause-written : goal.returns-in-Some-clause-written
+returns-in-Some-clause-written g c =
+    is_written c.args.slot.now.stream c.in-Some.stream c.write_some.new.stream c.in-Some.is
+    c.write_some.ensures.writes
+
+pub returns-in-Some-clause-told : goal.returns-in-Some-clause-told
+returns-in-Some-clause-told g c =
+    inr (c.in-Some.stream, c.write_some.new.stream, c.in-Some.is, refl, c.write_some.ensures.written)

@@ -3,16 +3,14 @@ use Rattle.std.proofs.Common.{◌≡◌}
 use Rattle.service_core.specs.Seen.{settings_of, tables_of}
 use Rattle.message_core.specs.Stated.{States}
 use Rattle.message_core.specs.declared.limits.BodyLimit.TheVariants.{ByPlace}
-use Rattle.web_core.specs.Notes.{IsNoted}
-use Rattle.web_core.specs.Web.{shuts}
+use Rattle.web_core.specs.Web.{IsTaken, shuts}
 use Rattle.web_core.proofs.RunLemmas.{served_messages}
 use Rattle.web_core.proofs.serve_all.serve_web.Goals as goal
 
 pub returns-clause-ran : goal.returns-clause-ran
 returns-clause-ran g c =
     served_messages (λ d. settings_of g.S.Store d.desk) (λ d. tables_of g.S.Store d.desk)
-    (States ByPlace)
-    (λ old a new. IsNoted old.proxied (settings_of g.S.Store old.desk) a
-    × (new.proxied ≡ old.proxied)) (shuts g.S.Store) (g.H.Host.told c.args.host.now) (g.H.Host.told c.serve.new.host)
+    (States ByPlace) (IsTaken g.S.Store g.C.Copies.made) (shuts g.S.Store)
+    (g.H.Host.told c.args.host.now) (g.H.Host.told c.serve.new.host)
     c.run_law.ensures c.args.places c.args.most c.args.desk.now c.serve.new.desk c.serve.result
     c.serve.ensures.ok

@@ -1,0 +1,14 @@
+//! Cases of a reply that comes to a client.
+
+use crate::failure::Failure;
+use client_core::answer_in;
+use std::alloc::Global;
+
+/// Adds what a reply tells: its code, and how many bytes its text has.
+pub(crate) fn run_case(alloc: Global, out: &mut String, reply: &[u8]) -> Result<(), Failure> {
+    match answer_in(alloc, reply)? {
+        Some(told) => writeln!(out, "{}: {} bytes", told.code, told.text.len())?,
+        None => writeln!(out, "none")?,
+    }
+    Ok(())
+}

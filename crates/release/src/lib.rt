@@ -1,0 +1,8 @@
+//! Which release the programs are, and what they were built from.
+#![tactic(auto)]
+
+/// What `--version` tells behind the name of a program: the version, as the file `VERSION` has it,
+/// and a line of 96 characters. Over this line `make desk` writes the commit and the toolchain in the
+/// built program, so that no commit has to name itself.
+pub const RELEASE: &str = "1.0.0
+no commit is told: `make desk` didn't make this build                                           ";
