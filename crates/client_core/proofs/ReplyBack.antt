@@ -9,8 +9,9 @@ use Rattle.std.specs.Str.{bytes_eq}
 use Rattle.std.proofs.lemmas.Bool.{eqb-true, le-leb, le-ltb, or_cases}
 use Rattle.std.proofs.lemmas.Slice.Eq.{bytes_eq-Decides}
 use Rattle.std.proofs.Math.Seq.{drop-append_seam}
-use Rattle.message_core.specs.Reply.{IsReply, allow_line, bytes_of, fields, is_reply_code}
-use Rattle.message_core.specs.Reply.{last_line, reply_codes, status_line, type_line}
+use Rattle.message_core.specs.Reply.{IsReply, bytes_of, fields, is_reply_code, last_line}
+use Rattle.message_core.specs.Reply.{reply_codes, status_line}
+use Rattle.message_core.proofs.ReplyLemmas.{allow_line, fields_are, type_line}
 use Rattle.message_core.specs.declared.reply.Allow.{Allow}
 use Rattle.message_core.specs.declared.reply.Allow.TheVariants.{Get, GetPost, Post}
 use Rattle.message_core.specs.declared.reply.Reply.{Reply}
@@ -59,15 +60,11 @@ type_begins rest = refl
 allow_begins : (allow : Option Allow) (rest : List ℕ)
     → (more : List ℕ) × (allow_line allow ++ rest ≡ 13 ∷ more)
 unfolding allow_line
-allow_begins None rest = (_, refl)
-allow_begins (Some Get) rest = (_, refl)
-allow_begins (Some Post) rest = (_, refl)
-allow_begins (Some GetPost) rest = (_, refl)
+allow_begins allow rest = (_, refl)
 
 -- what is stated is read
 stated : (allow : Option Allow) (n : ℕ) (body : List ℕ) → n < 2 ^ 32
     → number_in (before (drop 59 (from_return (fields allow n ++ body)))) ≡ Some n
-unfolding fields
 stated allow n body small =
     let tail = allow_line allow ++ (last_line ++ body) in
     let regroup : (type_line ++ (decimal n ++ (allow_line allow ++ last_line))) ++ body
@@ -80,7 +77,8 @@ stated allow n body small =
     let cut : before (decimal n ++ tail) ≡ decimal n =
     ap (λ (l : List ℕ). before (decimal n ++ l)) begun.1
     ∙ before_digits (decimal n) begun.0 (decimal_digits n (omega arith)) in
-    ap (λ (l : List ℕ). number_in (before (drop 59 (from_return l)))) regroup
+    ap (λ (l : List ℕ). number_in (before (drop 59 (from_return (l ++ body))))) (fields_are allow n)
+    ∙ ap (λ (l : List ℕ). number_in (before (drop 59 (from_return l)))) regroup
     ∙ ap (λ (l : List ℕ). number_in (before l)) (type_begins (decimal n ++ tail))
     ∙ ap number_in cut ∙ decimal_read n small
 
