@@ -47,11 +47,11 @@ no_methods : allow_line None ≡ []
 unfolding allow_line
 no_methods = refl
 
-get_alone : allow_line (Some Get) ≡ codes "Allow: GET\r\n"
+get_alone : allow_line (Some Get) ≡ codes "Allow: GET, HEAD\r\n"
 unfolding allow_line
 get_alone = refl
 
-get_and_post : allow_line (Some GetAndPost) ≡ codes "Allow: GET, POST\r\n"
+get_and_post : allow_line (Some GetAndPost) ≡ codes "Allow: GET, HEAD, POST\r\n"
 unfolding allow_line
 get_and_post = refl
 

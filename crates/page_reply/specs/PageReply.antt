@@ -43,8 +43,8 @@ location_line (Some path) = leads_line path
 
 unfoldable pub allow_line : Option Methods → List ℕ
 allow_line None = []
-allow_line (Some Get) = codes "Allow: GET\r\n"
-allow_line (Some GetAndPost) = codes "Allow: GET, POST\r\n"
+allow_line (Some Get) = codes "Allow: GET, HEAD\r\n"
+allow_line (Some GetAndPost) = codes "Allow: GET, HEAD, POST\r\n"
 
 -- no page is kept; nothing but styles of the desk's own is loaded, forms go to the desk alone, no
 -- page frames it; and the desk alone is told where a form stood

@@ -21,7 +21,7 @@ pub enum CookieChange {
     Forget,
 }
 
-/// Which methods a place takes.
+/// Which methods a place takes; HEAD goes with GET.
 #[derive(Clone, Copy)]
 pub enum Methods {
     Get,
@@ -180,8 +180,8 @@ pub(crate) fn allow_line(allow: Option<Methods>) -> &'static str
 {
     match allow {
         None => "",
-        Some(Methods::Get) => "Allow: GET\r\n",
-        Some(Methods::GetAndPost) => "Allow: GET, POST\r\n",
+        Some(Methods::Get) => "Allow: GET, HEAD\r\n",
+        Some(Methods::GetAndPost) => "Allow: GET, HEAD, POST\r\n",
     }
 }
 
