@@ -9,9 +9,9 @@ use Rattle.std.specs.Str.{bytes_eq}
 use Rattle.std.proofs.lemmas.Bool.{eqb-true, le-leb, le-ltb, or_cases}
 use Rattle.std.proofs.lemmas.Slice.Eq.{bytes_eq-Decides}
 use Rattle.std.proofs.Math.Seq.{drop-append_seam}
-use Rattle.message_core.specs.Reply.{IsReply, bytes_of, fields, is_reply_code, last_line}
+use Rattle.message_core.specs.Reply.{IsReply, bytes_of, is_reply_code, last_line}
 use Rattle.message_core.specs.Reply.{reply_codes, status_line}
-use Rattle.message_core.proofs.ReplyLemmas.{allow_line, fields_are, type_line}
+use Rattle.message_core.proofs.ReplyLemmas.{allow_line, fields, head_is, type_line}
 use Rattle.message_core.specs.declared.reply.Allow.{Allow}
 use Rattle.message_core.specs.declared.reply.Allow.TheVariants.{Get, GetPost, Post}
 use Rattle.message_core.specs.declared.reply.Reply.{Reply}
@@ -65,6 +65,7 @@ allow_begins allow rest = (_, refl)
 -- what is stated is read
 stated : (allow : Option Allow) (n : ℕ) (body : List ℕ) → n < 2 ^ 32
     → number_in (before (drop 59 (from_return (fields allow n ++ body)))) ≡ Some n
+unfolding fields
 stated allow n body small =
     let tail = allow_line allow ++ (last_line ++ body) in
     let regroup : (type_line ++ (decimal n ++ (allow_line allow ++ last_line))) ++ body
@@ -77,8 +78,7 @@ stated allow n body small =
     let cut : before (decimal n ++ tail) ≡ decimal n =
     ap (λ (l : List ℕ). before (decimal n ++ l)) begun.1
     ∙ before_digits (decimal n) begun.0 (decimal_digits n (omega arith)) in
-    ap (λ (l : List ℕ). number_in (before (drop 59 (from_return (l ++ body))))) (fields_are allow n)
-    ∙ ap (λ (l : List ℕ). number_in (before (drop 59 (from_return l)))) regroup
+    ap (λ (l : List ℕ). number_in (before (drop 59 (from_return l)))) regroup
     ∙ ap (λ (l : List ℕ). number_in (before l)) (type_begins (decimal n ++ tail))
     ∙ ap number_in cut ∙ decimal_read n small
 
@@ -142,8 +142,12 @@ back : (code : ℕ) (allow : Option Allow) (text : List ℕ) → is_reply_code c
 back code allow text known some small =
     let leads = one_of reply_codes each_leads code known in
     let bytes = bytes_of (told code allow text) in
-    let first : code_in bytes ≡ Some code = code_back code (fields allow (length text) ++ text) leads in
-    let second : text_in bytes ≡ Some text = text_back code allow text leads small in
+    let rest = fields allow (length text) ++ text in
+    let whole : bytes ≡ status_line code ++ rest =
+    ap (λ (l : List ℕ). l ++ text) (head_is code allow (length text))
+    ∙ append_assoc (status_line code) (fields allow (length text)) text in
+    let first : code_in bytes ≡ Some code = ap code_in whole ∙ code_back code rest leads in
+    let second : text_in bytes ≡ Some text = ap text_in whole ∙ text_back code allow text leads small in
     let is : is_one_of bytes code text ≡ true =
     found bytes code allow text (code == 405) refl some refl in
     rw (first, second, is) refl

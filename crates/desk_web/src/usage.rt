@@ -18,6 +18,4 @@ Options:
   --version         Print the version, alone";
 
 /// The names of its options.
-pub const OPTIONS: [&str; 7] = [
-    "db", "settings", "port", "count", "log", "proxy", "copies",
-];
+pub const OPTIONS: [&str; 7] = ["db", "settings", "port", "count", "log", "proxy", "copies"];

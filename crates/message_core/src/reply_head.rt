@@ -12,12 +12,7 @@ use std::alloc::AllocError;
 /// Puts what a head begins with at the end of what is there: its status line, with a code of HTTP, and
 /// the lines of the type and the length of the body. `AllocError` only where there is no room, and no
 /// memory for it; a part may stand there then.
-pub fn start_head(
-    out: &mut Vec<u8>,
-    status: u16,
-    kind: &str,
-    bytes: u64,
-) -> Result<(), AllocError>
+pub fn start_head(out: &mut Vec<u8>, status: u16, kind: &str, bytes: u64) -> Result<(), AllocError>
     requires { IsStatusCode status }
     ensures added { OnOk result (out.new.items
         ≡ out.old.items ++ form.head_start status kind.now bytes) }

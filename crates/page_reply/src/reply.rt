@@ -56,11 +56,7 @@ pub fn page_reply(alloc: Global, reply: &PageReply) -> Result<Vec<u8>, AllocErro
 }
 
 /// Puts what the head of a page begins with at the end.
-pub(crate) fn start_page_head(
-    out: &mut Vec<u8>,
-    status: u16,
-    bytes: u64,
-) -> Result<(), AllocError>
+pub(crate) fn start_page_head(out: &mut Vec<u8>, status: u16, bytes: u64) -> Result<(), AllocError>
     requires { IsStatusCode status }
     ensures added { OnOk result (out.new.items
         ≡ out.old.items ++ head_start status form.page_kind bytes) }

@@ -32,12 +32,7 @@ fn add_way(out: &mut Vec<u8>, front: &str, middle: &str, back: &str) -> Result<(
 
 /// Puts the lines of the way to a place at the end.
 #[tactic(auto, unfolding(crate::specs::PageReply::own_lines))]
-fn add_way_lines(
-    out: &mut Vec<u8>,
-    front: &str,
-    middle: &str,
-    back: &str,
-) -> Result<(), AllocError>
+fn add_way_lines(out: &mut Vec<u8>, front: &str, middle: &str, back: &str) -> Result<(), AllocError>
     ensures added { OnOk result (out.new.items ≡ out.old.items
         ++ form.own_lines CookieChange.Keep (Some (front.now ++ (middle.now ++ back.now))) None) }
     ensures full { OnErr result (vec_capacity out.old < vec_len out.old
