@@ -153,11 +153,11 @@ record Leads (template : List ℕ) : Type 0 where
       → through state None template ≡ InText
       → walk real (filled_from true template texts flags) ≡ InText
   inside : (real state start : State) → Alike real state → (texts : List (List ℕ)) (flags : List
-    Bool)
+      Bool)
       → through state (Some start) template ≡ InText
       → walk real (filled_from true template texts flags) ≡ InText
   hidden : (real state start : State) → Alike real start → (texts : List (List ℕ)) (flags : List
-    Bool)
+      Bool)
       → through state (Some start) template ≡ InText
       → walk real (filled_from false template texts flags) ≡ InText
 
