@@ -202,6 +202,14 @@ def misnamed(table):
     return None
 
 
+def repeated(table):
+    """The first person whose name an earlier one has, or else the first whose name a group has."""
+    persons = table.get("persons", [])
+    again = (name for at, name in enumerate(persons) if name in persons[:at])
+    shared = (name for name in persons if name in table.get("groups", {}))
+    return f"the person `{next(again, None) or next(shared)}`"
+
+
 def unknown_member(table):
     known = set(table.get("persons", [])) | set(table.get("groups", {}))
     return next((f"`{name}`, a member of the group `{group}`" for group in in_order(table.get("groups", {}))
@@ -252,7 +260,7 @@ def bad_limit(table):
         for key in ("response", "keep_in_loop", "resolve"):
             limit = levels[level].get(key, {"real_minutes": 1})
             if len(limit) > 1 or any(not 1 <= minutes <= 525600 for minutes in limit.values()):
-                return f"a limit in [level.{level}]"
+                return f"the limit `{key}` of [level.{level}]"
     for key, most in (("max_requests", 1000000), ("max_entries", 10000)):
         if not 1 <= table.get(key, 1) <= most:
             return f"the key `{key}` of the text"
@@ -266,7 +274,7 @@ def first_named(table, key, is_bad):
 PLACES = {
     "Hours": lambda table: first_named(table, "calendar", bad_hours),
     "Lifecycle": lambda table: first_named(table, "lifecycle", bad_lifecycle),
-    "BadName": misnamed, "Repeated": lambda table: "`persons`, [groups] and [[grant]]",
+    "BadName": misnamed, "Repeated": repeated,
     "UnknownMember": unknown_member, "UnknownSubject": unknown_subject,
     "UnknownName": unknown_name, "BadToken": bad_token, "BadLimit": bad_limit}
 

@@ -97,12 +97,14 @@ levels minutes =
     (table (member (codes "fast") (level minutes) (member (codes "slow") (level 1) no_members)))
     no_members
 
-level_of_a_year : HasFault (levels 525600) BadLimit (place.level (codes "fast")) → ⊥
+level_of_a_year : HasFault (levels 525600) BadLimit (place.limit (codes "fast") (codes "resolve"))
+    → ⊥
 level_of_a_year (inl h) = absurd (let no : true ≡ false = h.1 in cc)
 level_of_a_year (inr (inl h)) = absurd (let no : true ≡ false = h.1 in cc)
 level_of_a_year (inr (inr h)) = h
 
-level_of_a_minute_more : HasFault (levels 525601) BadLimit (place.level (codes "fast"))
+level_of_a_minute_more : HasFault (levels 525601) BadLimit
+    (place.limit (codes "fast") (codes "resolve"))
 level_of_a_minute_more = inl (refl, refl)
 
 calendar_of_no_table : HasFault (levels 1) UnknownName
@@ -114,6 +116,51 @@ status_of_no_lifecycle : HasFault (levels 1) UnknownName
     (place.status_of (codes "fast") (codes "closed"))
 unfolding default_lifecycle
 status_of_no_lifecycle = (inl (refl, refl), refl)
+
+-- both limits of a level are out of their bounds
+abbrev two_limits : Members
+two_limits =
+    member (codes "level")
+    (table
+    (member (codes "gold")
+    (table
+    (member (codes "keep_in_loop") (limit 0) (member (codes "response") (limit 0) no_members)))
+    no_members))
+    no_members
+
+first_limit : wrong_in two_limits BadLimit
+    ≡ Some (place.limit (codes "gold") (codes "response"))
+first_limit = refl
+
+-- ---- names that stand twice
+
+abbrev persons : Data
+persons =
+    array
+    (item (text (codes "ann"))
+    (item (text (codes "bob"))
+    (item (text (codes "bob")) (item (text (codes "ann")) no_items))))
+
+abbrev twice : Members
+twice =
+    member (codes "groups") (table (member (codes "ann") (texts (codes "bob")) no_members))
+    (member (codes "persons") persons no_members)
+
+person_of_two : HasFault twice (Rights in_rights.Repeated) (place.person_twice (codes "bob"))
+person_of_two = omega arith
+
+person_and_group : HasFault twice (Rights in_rights.Repeated)
+    (place.person_and_group (codes "ann"))
+person_and_group = (refl, refl)
+
+person_without_group : HasFault twice (Rights in_rights.Repeated)
+    (place.person_and_group (codes "bob")) → ⊥
+person_without_group h = absurd (let no : false ≡ true = h.1 in cc)
+
+-- the second `bob` stands before the second `ann`
+persons_before_groups : wrong_in twice (Rights in_rights.Repeated)
+    ≡ Some (place.person_twice (codes "bob"))
+persons_before_groups = refl
 
 -- ---- groups and grants
 

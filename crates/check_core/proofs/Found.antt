@@ -1,12 +1,13 @@
 -- What a search finds passes its test, and it finds one where one passes.
-use Rattle.std.proofs.Common.{◌≡◌, ◌⊎◌, inl, inr, ℕ, Bool, true, false, cond, not, ◌&&◌, ◌||◌}
-use Rattle.std.proofs.Common.{List, [], ◌∷◌, Option, Some, None, is_some, find, refl, sym}
+use Rattle.std.proofs.Common.{◌≡◌, ◌⊎◌, inl, inr, ℕ, ◌+◌, ◌≤◌, Bool, true, false, cond, not, ◌&&◌, ◌||◌}
+use Rattle.std.proofs.Common.{List, [], ◌∷◌, Option, Some, None, is_some, find, filter, length, refl, sym, arith}
 use Rattle.std.proofs.Common.{subst, if◌then◌else◌}
 use Rattle.std.specs.List.{list_all}
 use Rattle.std.specs.Option.{option_map, option_or}
 use Rattle.std.specs.Str.{bytes_eq}
 use Rattle.std.proofs.lemmas.Slice.Eq.{bytes_eq-Decides}
 use Rattle.rights_core.specs.People.{is_among}
+use Rattle.check_core.specs.People.{first_again}
 
 pub some_of : {A : Type 0} (o : Option A) → is_some o ≡ true → (x : A) × (o ≡ Some x)
 some_of (Some x) h = (x, refl)
@@ -54,6 +55,10 @@ and_both false b h k = h
 pub both_of : (a b : Bool) → (a && b) ≡ true → (a ≡ true) × (b ≡ true)
 both_of true b h = (refl, h)
 both_of false b h = absurd (cc)
+
+pub or_of : (a b : Bool) → cond a true b ≡ (a || b)
+or_of true b = refl
+or_of false b = refl
 
 pub not_true : (b : Bool) → not b ≡ true → b ≡ false
 not_true false h = refl
@@ -116,3 +121,52 @@ pub some_mapped : {A B : Type 0} (f : A → B) (a : Option A) → is_some a ≡ 
     → is_some (option_map f a) ≡ true
 some_mapped f (Some x) h = refl
 some_mapped f None h = absurd (cc)
+
+-- ---- names that stand twice
+
+-- how many of the names are this one
+abbrev pub times : List ℕ → List (List ℕ) → ℕ
+times x names = length (filter (λ name. bytes_eq name x) names)
+
+counted_or : (b rest : Bool) (name : List ℕ) (names : List (List ℕ)) → (b || rest) ≡ true
+    → (rest ≡ true → 1 ≤ length names) → 1 ≤ length (cond b (name ∷ names) names)
+counted_or true rest name names h there = omega arith
+counted_or false rest name names h there = there h
+
+-- one more, before the others or after
+moved : (b : Bool) (name : List ℕ) (some others : List (List ℕ))
+    → length (cond b (name ∷ some) some) + length others
+    ≡ length some + length (cond b (name ∷ others) others)
+moved true name some others = omega arith
+moved false name some others = refl
+
+among_counted : (x : List ℕ) (names : List (List ℕ)) → is_among names x ≡ true
+    → 1 ≤ times x names
+among_counted x [] h = absurd (cc)
+among_counted x (name ∷ names) h =
+    counted_or (bytes_eq name x) (is_among names x) name (filter (λ n. bytes_eq n x) names) h
+    (among_counted x names)
+
+two_of : (a b : ℕ) → 1 ≤ a → 1 ≤ b → 2 ≤ a + b
+two_of a b once here = omega (arith, once, here)
+
+-- one that is found again is counted twice
+again_counted : (x : List ℕ) (earlier names : List (List ℕ))
+    → first_again earlier names ≡ Some x → 2 ≤ times x earlier + times x names
+again_counted x earlier [] h = absurd (cc)
+again_counted x earlier (name ∷ names) h =
+    found_or (λ z. 2 ≤ times z earlier + times z (name ∷ names)) (is_among earlier name) name
+    (first_again (name ∷ earlier) names) x h
+    (λ is.
+    two_of (times name earlier) (times name (name ∷ names)) (among_counted name earlier is)
+    (among_counted name (name ∷ names)
+    (or_left (bytes_eq name name) (is_among names name) (itself name))))
+    (λ rest.
+    subst (λ n. 2 ≤ n)
+    (moved (bytes_eq name x) name (filter (λ n. bytes_eq n x) earlier)
+    (filter (λ n. bytes_eq n x) names))
+    (again_counted x (name ∷ earlier) names rest))
+
+pub again_twice : (x : List ℕ) (names : List (List ℕ)) → first_again [] names ≡ Some x
+    → 2 ≤ times x names
+again_twice x names h = let counted = again_counted x [] names h in omega (arith, counted)

@@ -75,7 +75,7 @@ right_of_one : (ls : List (Named lifecycles.Parts)) (d : Data) (subject : Option
     (texts_at (codes "rights") (members_of d)))
     subject
     []) ≡ false
-    → is_some (stray_of ls d) ≡ true
+    → is_some (stray_of (knows_right ls) d) ≡ true
 right_of_one ls d None h = absurd (cc)
 right_of_one ls d (Some s) h =
     let texts = texts_at (codes "rights") (members_of d) in
@@ -84,14 +84,14 @@ right_of_one ls d (Some s) h =
     (sym (list_all-map (λ g. knows_right ls g.right) (grant_of s queue) texts) ∙ h)
 
 pub right_found : (ls : List (Named lifecycles.Parts)) (n : ℕ) (ds : Items)
-    → knows_rights ls (grants_in ds) ≡ false → is_some (stray_grant ls n ds) ≡ true
+    → knows_rights ls (grants_in ds) ≡ false → is_some (stray_grant (knows_right ls) n ds) ≡ true
 right_found ls n no_items h = absurd (cc)
 right_found ls n (item d ds) h =
     some_either (list_all (λ g. knows_right ls g.right) (grants_at (members_of d)))
     (knows_rights ls (grants_in ds))
-    (option_map (λ right. (n, right)) (stray_of ls d)) (stray_grant ls (n + 1) ds)
+    (option_map (λ right. (n, right)) (stray_of (knows_right ls) d)) (stray_grant (knows_right ls) (n + 1) ds)
     (split_off (λ g. knows_right ls g.right) d ds h)
-    (λ stray. some_mapped (λ right. (n, right)) (stray_of ls d)
+    (λ stray. some_mapped (λ right. (n, right)) (stray_of (knows_right ls) d)
     (right_of_one ls d (subject_in (unwrap_or (text_at (codes "to") (members_of d)) [])) stray))
     (right_found ls (n + 1) ds)
 
@@ -99,16 +99,16 @@ HasRight : List ℕ → Members → Type 0
 HasRight right g = is_among (texts_at (codes "rights") g) right ≡ true
 
 right_from : (ls : List (Named lifecycles.Parts)) (n : ℕ) (ds : Items) (x : ℕ × List ℕ)
-    → stray_grant ls n ds ≡ Some x
+    → stray_grant (knows_right ls) n ds ≡ Some x
     → FoundFrom (HasRight x.1) n x.0 ds × (knows_right ls x.1 ≡ false)
 unfolding HasRight
 right_from ls n no_items x h = absurd (cc)
 right_from ls n (item d ds) x h =
-    let own : Option (ℕ × List ℕ) = option_map (λ right. (n, right)) (stray_of ls d) in
-    elim (either_some own (stray_grant ls (n + 1) ds) x h) [
+    let own : Option (ℕ × List ℕ) = option_map (λ right. (n, right)) (stray_of (knows_right ls) d) in
+    elim (either_some own (stray_grant (knows_right ls) (n + 1) ds) x h) [
       | inl here ↦
           let (r, found, is) =
-          mapped_some {B = ℕ × List ℕ} (λ right. (n, right)) (stray_of ls d) x here in
+          mapped_some {B = ℕ × List ℕ} (λ right. (n, right)) (stray_of (knows_right ls) d) x here in
           let texts = texts_at (codes "rights") (members_of d) in
           subst
           (λ z. FoundFrom (HasRight z.1) n z.0 (item d ds) × (knows_right ls z.1 ≡ false))
@@ -124,7 +124,7 @@ right_from ls n (item d ds) x h =
     ]
 
 pub right_has : (ls : List (Named lifecycles.Parts)) (ds : Items) (x : ℕ × List ℕ)
-    → stray_grant ls 1 ds ≡ Some x
+    → stray_grant (knows_right ls) 1 ds ≡ Some x
     → ((k : ℕ) × (d : Data) × (x.0 ≡ k + 1) × (get_item k ds ≡ Some d)
     × (is_among (texts_at (codes "rights") (members_of d)) x.1 ≡ true))
     × (knows_right ls x.1 ≡ false)
@@ -135,7 +135,7 @@ right_has ls ds x h = right_from ls 1 ds x h
 
 -- one whom the text knows is one of its persons and groups
 same_known : (ms : Members) (subject : Subject)
-    → is_known ms subject
+    → is_known (texts_at (codes "persons") ms) ms subject
     ≡ is_there_among (texts_at (codes "persons") ms) (groups_of ms) subject
 same_known ms (Person name) = refl
 same_known ms (Group name) = group_at_key name (table_at (codes "groups") ms)
@@ -166,13 +166,13 @@ subject_of_one : (ms : Members) (subject : Option Subject) (queue : Option (List
     (rights : List (List ℕ))
     → list_all (λ g. is_there_among (texts_at (codes "persons") ms) (groups_of ms) g.subject)
     (grants_for subject queue rights) ≡ false
-    → (has_any rights && not (option_map_or (is_known ms) subject true)) ≡ true
+    → (has_any rights && not (option_map_or (is_known (texts_at (codes "persons") ms) ms) subject true)) ≡ true
 unfolding grants_for
 subject_of_one ms None queue rights h = absurd (cc)
 subject_of_one ms (Some s) queue [] h = absurd (cc)
 subject_of_one ms (Some s) queue (r ∷ rights) h =
     let persons = texts_at (codes "persons") ms in
-    not_false (is_known ms s) (same_known ms s ∙ all_fail
+    not_false (is_known (texts_at (codes "persons") ms) ms s) (same_known ms s ∙ all_fail
     (is_there_among persons (groups_of ms) s)
     (list_all (λ g. is_there_among persons (groups_of ms) g.subject)
     (map (grant_of s queue) (r ∷ rights)))
@@ -181,16 +181,16 @@ subject_of_one ms (Some s) queue (r ∷ rights) h =
 pub subject_found : (ms : Members) (n : ℕ) (ds : Items)
     → list_all (λ g. is_there_among (texts_at (codes "persons") ms) (groups_of ms) g.subject)
     (grants_in ds) ≡ false
-    → is_some (stray_subject_in ms n ds) ≡ true
+    → is_some (stray_subject_in (texts_at (codes "persons") ms) ms n ds) ≡ true
 unfolding grants_for
 subject_found ms n no_items h = absurd (cc)
 subject_found ms n (item d ds) h =
     let persons = texts_at (codes "persons") ms in
     let to = text_in (codes "to") d in
-    found_if (grants_any d && not (is_there ms to))
+    found_if (grants_any d && not (is_there (texts_at (codes "persons") ms) ms to))
     (list_all (λ g. is_there_among persons (groups_of ms) g.subject) (grants_at (members_of d)))
     (list_all (λ g. is_there_among persons (groups_of ms) g.subject) (grants_in ds))
-    (n, to) (stray_subject_in ms (n + 1) ds)
+    (n, to) (stray_subject_in (texts_at (codes "persons") ms) ms (n + 1) ds)
     (split_off (λ g. is_there_among persons (groups_of ms) g.subject) d ds h)
     (subject_of_one ms (subject_in to) (text_at (codes "queue") (members_of d))
     (texts_at (codes "rights") (members_of d)))
@@ -198,14 +198,14 @@ subject_found ms n (item d ds) h =
 
 -- the subject of a table, if it has a grant, is said by its text
 text_said : (ms : Members) (said : Option (List ℕ))
-    → not (option_map_or (is_known ms) (subject_in (unwrap_or said [])) true) ≡ true
+    → not (option_map_or (is_known (texts_at (codes "persons") ms) ms) (subject_in (unwrap_or said [])) true) ≡ true
     → said ≡ Some (unwrap_or said [])
 text_said ms None h = absurd (cc)
 text_said ms (Some to) h = refl
 
 some_none : (ms : Members) (subject : Option Subject) (queue : Option (List ℕ))
     (rights : List (List ℕ)) → has_any rights ≡ true
-    → not (option_map_or (is_known ms) subject true) ≡ true
+    → not (option_map_or (is_known (texts_at (codes "persons") ms) ms) subject true) ≡ true
     → list_any (λ g. not (is_there_among (texts_at (codes "persons") ms) (groups_of ms) g.subject))
     (grants_for subject queue rights) ≡ true
 unfolding grants_for
@@ -226,29 +226,29 @@ IsStray ms to g =
     (grants_at g) ≡ true)
 
 stray_one : (ms : Members) (d : Data)
-    → (grants_any d && not (is_there ms (text_in (codes "to") d))) ≡ true
+    → (grants_any d && not (is_there (texts_at (codes "persons") ms) ms (text_in (codes "to") d))) ≡ true
     → IsStray ms (text_in (codes "to") d) (members_of d)
 unfolding IsStray grants_for
 stray_one ms d h =
     let to = text_in (codes "to") d in
-    let (any, gone) = both_of (grants_any d) (not (is_there ms to)) h in (
+    let (any, gone) = both_of (grants_any d) (not (is_there (texts_at (codes "persons") ms) ms to)) h in (
       text_said ms (text_at (codes "to") (members_of d)) gone,
       some_none ms (subject_in to) (text_at (codes "queue") (members_of d))
           (texts_at (codes "rights") (members_of d)) any gone,
     )
 
 subject_from : (ms : Members) (n : ℕ) (ds : Items) (x : ℕ × List ℕ)
-    → stray_subject_in ms n ds ≡ Some x → FoundFrom (IsStray ms x.1) n x.0 ds
+    → stray_subject_in (texts_at (codes "persons") ms) ms n ds ≡ Some x → FoundFrom (IsStray ms x.1) n x.0 ds
 subject_from ms n no_items x h = absurd (cc)
 subject_from ms n (item d ds) x h =
     let to = text_in (codes "to") d in
     found_or (λ z. FoundFrom (IsStray ms z.1) n z.0 (item d ds))
-    (grants_any d && not (is_there ms to)) (n, to) (stray_subject_in ms (n + 1) ds) x h
+    (grants_any d && not (is_there (texts_at (codes "persons") ms) ms to)) (n, to) (stray_subject_in (texts_at (codes "persons") ms) ms (n + 1) ds) x h
     (λ stray. first_item (IsStray ms to) n d ds (stray_one ms d stray))
     (λ rest. later_item (IsStray ms x.1) n x.0 d ds (subject_from ms (n + 1) ds x rest))
 
 pub subject_has : (ms : Members) (ds : Items) (x : ℕ × List ℕ)
-    → stray_subject_in ms 1 ds ≡ Some x
+    → stray_subject_in (texts_at (codes "persons") ms) ms 1 ds ≡ Some x
     → (k : ℕ) × (d : Data) × (x.0 ≡ k + 1) × (get_item k ds ≡ Some d)
     × ((text_at (codes "to") (members_of d) ≡ Some x.1)
     × (list_any (λ g. not (is_there_among (texts_at (codes "persons") ms) (groups_of ms) g.subject))

@@ -1,6 +1,6 @@
 -- Each fault that a text has, has a place, and what stands there has it.
 use Rattle.std.proofs.Common.{◌≡◌, ◌⊎◌, inl, inr, ℕ, Bool, true, false, cond, not, ◌&&◌}
-use Rattle.std.proofs.Common.{List, Option, Some, None, is_some, refl, sym, ◌∙◌, ap}
+use Rattle.std.proofs.Common.{List, [], Option, Some, None, is_some, refl, sym, ◌∙◌, ap, arith}
 use Rattle.std.proofs.Common.{subst, codes, if◌then◌else◌, ⊎_elim, Result, Ok, Err, IfOk, IsSomeAnd}
 use Rattle.std.specs.List.{list_all}
 use Rattle.std.specs.Option.{option_map, option_or}
@@ -30,13 +30,13 @@ use Rattle.settings_parts.specs.CalendarParts.{hours_of}
 use Rattle.settings_parts.specs.LifecycleParts.{lifecycle_of}
 use Rattle.settings_parts.specs.PeopleParts.{has_people, people_in, people_stated}
 use Rattle.settings_parts.specs.PeopleParts.{root_alone, tokens_of}
-use Rattle.settings_parts.specs.Values.{items_at, table_at, text_at}
+use Rattle.settings_parts.specs.Values.{items_at, table_at, text_at, texts_at}
 use Rattle.settings_core.specs.Calendars as calendars
 use Rattle.settings_core.specs.Fault.{of_form}
 use Rattle.settings_core.specs.Levels.{have_limits, levels_of}
 use Rattle.settings_core.specs.Lifecycles as tables
 use Rattle.settings_core.specs.Names.{knows_calendars, knows_ignored, knows_names, knows_persons}
-use Rattle.settings_core.specs.Names.{knows_right, knows_rights}
+use Rattle.settings_core.specs.Names.{knows_right, knows_rights, knows_status}
 use Rattle.settings_core.specs.Reading.{fault_of, has_limits, has_tokens, is_count_at, late_fault}
 use Rattle.settings_core.specs.Reading.{table_fault}
 use Rattle.settings_core.specs.declared.fault.SettingsFault.{SettingsFault}
@@ -47,23 +47,25 @@ use Rattle.settings_core.specs.declared.fault.SettingsFault.TheVariants.{Unknown
 use Rattle.settings_core.specs.declared.fault.SettingsFault.TheVariants.{BadLimit}
 use Rattle.settings_core.specs.declared.named.Named.{Named}
 use Rattle.check_core.specs.BadNames.{bad_granted, bad_group, bad_person}
-use Rattle.check_core.specs.Limits.{bad_count, bad_level}
+use Rattle.check_core.specs.Limits.{bad_count, bad_limit}
 use Rattle.check_core.specs.Names.{stray_calendar, stray_person, stray_right, stray_status}
-use Rattle.check_core.specs.People.{is_group, is_person, stray_member, stray_subject}
+use Rattle.check_core.specs.People.{is_group, person_again, person_as_group, stray_member}
+use Rattle.check_core.specs.People.{stray_subject}
 use Rattle.check_core.specs.Placed.{HasFault, HasGrant, HasTable, IsBadCount}
-use Rattle.check_core.specs.Placed.{IsMisnamed, IsStrayMember, PlaceLaw, grants_to_none}
+use Rattle.check_core.specs.Placed.{IsMisnamed, IsStrayMember, IsTwice, PlaceLaw, grants_to_none}
 use Rattle.check_core.specs.Tokens.{bad_token}
 use Rattle.check_core.specs.Wrong as place
-use Rattle.check_core.specs.Wrong.{Wrong, bad_name, wrong_in, wrong_limit, wrong_name}
+use Rattle.check_core.specs.Wrong.{Wrong, bad_name, repeated_name, wrong_in, wrong_limit}
+use Rattle.check_core.specs.Wrong.{wrong_name}
 use Rattle.check_core.specs.declared.wrong.Wrong.{Wrong as WrongInCode}
-use Rattle.check_core.proofs.Found.{either_some, found_or, found_unless}
+use Rattle.check_core.proofs.Found.{again_twice, either_some, found_or, found_unless}
 use Rattle.check_core.proofs.Found.{mapped_some, not_true, some_either, some_mapped, some_of}
 use Rattle.check_core.proofs.Found.{find_among, find_failing, find_passes}
 use Rattle.check_core.proofs.Grants.{granted_found, granted_has, right_found, right_has}
 use Rattle.check_core.proofs.Grants.{subject_found, subject_has}
 use Rattle.check_core.proofs.TextTables.{calendar_found, calendar_has, fault_of_part, first_bad}
 use Rattle.check_core.proofs.TextTables.{group_at_key, group_found, group_has}
-use Rattle.check_core.proofs.TextTables.{level_found, level_has, member_found, member_has}
+use Rattle.check_core.proofs.TextTables.{limit_found, limit_has, member_found, member_has}
 use Rattle.check_core.proofs.TextTables.{person_found, person_has, status_found, status_has}
 use Rattle.check_core.proofs.TextTables.{token_found, token_has}
 
@@ -78,6 +80,12 @@ when_only : {F : Type 0} (P : F → Type 0) (b : Bool) (y x : F) → cond b (Som
     → (b ≡ true → P y) → P x
 when_only P true y x h here = let same : y ≡ x = cc in subst P same (here refl)
 when_only P false y x h here = absurd (cc)
+
+some_last : {A : Type 0} (a b : Option A) (x : A)
+    → is_some (option_or a (option_or b (Some x))) ≡ true
+some_last (Some y) b x = refl
+some_last None (Some y) x = refl
+some_last None None x = refl
 
 -- the tests in their order, one and then the rest
 grouped : (a b c : Bool) → (a && b && c) ≡ false → (a && (b && c)) ≡ false
@@ -174,6 +182,12 @@ stated_by_subjects : (b : Bool) (p : Parts)
 stated_by_subjects true p h = refl
 stated_by_subjects false p h = absurd (let no : true ≡ false = h in cc)
 
+stated_by_repeats : (b : Bool) (p : Parts)
+    → repeats_name (if b then p else root_alone).persons (if b then p else root_alone).groups ≡ true
+    → (if b then p else root_alone) ≡ p
+stated_by_repeats true p h = refl
+stated_by_repeats false p h = absurd (let no : false ≡ true = h in cc)
+
 bad_name_found : (ms : Members) → has_names (people_stated ms) ≡ false
     → is_some (bad_name ms) ≡ true
 bad_name_found ms h =
@@ -259,9 +273,10 @@ member_placed ms h =
     stated_by_members (has_people ms) (people_stated ms) h in
     let strays : knows_members (people_stated ms) ≡ false =
     subst (λ p. knows_members p ≡ false) stated h in
-    let (x, found) = some_of (stray_member ms) (member_found ms groups strays) in
-    let (listed, stray) = member_has ms groups x found in
-    let (no_person, no_group) = or_parts (is_person ms x.1) (is_group ms x.1) stray in
+    let persons = texts_at (codes "persons") ms in
+    let (x, found) = some_of (stray_member persons ms) (member_found persons ms groups strays) in
+    let (listed, stray) = member_has persons ms groups x found in
+    let (no_person, no_group) = or_parts (is_among persons x.1) (is_group ms x.1) stray in
     let own : IsStrayMember (people_stated ms) x.0 x.1 =
     (listed, no_person, sym (group_at_key x.1 groups) ∙ no_group) in (
       place.group_member x.0 x.1,
@@ -277,7 +292,7 @@ subject_placed ms h =
     stated_by_subjects (has_people ms) (people_stated ms) h in
     let strays : knows_subjects (people_stated ms) ≡ false =
     subst (λ p. knows_subjects p ≡ false) stated h in
-    let (x, found) = some_of (stray_subject ms) (subject_found ms 1 grants strays) in
+    let (x, found) = some_of (stray_subject (texts_at (codes "persons") ms) ms) (subject_found ms 1 grants strays) in
     let P : Parts → Type 0 =
     λ p. HasGrant (λ g. (text_at (codes "to") g ≡ Some x.1) × (grants_to_none p g ≡ true)) x.0 ms in
     let own : P (people_stated ms) = subject_has ms grants x found in (
@@ -286,11 +301,71 @@ subject_placed ms h =
       subst P (sym stated) own,
     )
 
+-- a place has the fault by the people that a text states
+IsRepeated : Members → Parts → Wrong → Type 0
+IsRepeated ms p (place.person_twice name) = IsTwice name p.persons
+IsRepeated ms p (place.person_and_group name) =
+    (is_among p.persons name ≡ true) × (has_group p.groups name ≡ true)
+IsRepeated ms p place.people = repeats_name p.persons p.groups ≡ true
+IsRepeated ms p other = ⊥
+
+repeated_has : (ms : Members) (w : Wrong) → repeated_name ms ≡ Some w
+    → repeats_name (people_stated ms).persons (people_stated ms).groups ≡ true
+    → IsRepeated ms (people_stated ms) w
+unfolding IsRepeated
+repeated_has ms w h repeats =
+    let parts = people_stated ms in
+    let P : Wrong → Type 0 = IsRepeated ms parts in
+    let shared : Option Wrong = option_map place.person_and_group (person_as_group ms) in
+    ⊎_elim
+    (λ own. let (name, found, is) = mapped_some place.person_twice (person_again ms) w own in
+    let has : P (place.person_twice name) = again_twice name parts.persons found in
+    subst P is has)
+    (λ after. ⊎_elim
+    (λ own. let (name, found, is) =
+    mapped_some place.person_and_group (person_as_group ms) w own in
+    let has : P (place.person_and_group name) = (
+      find_among (is_group ms) parts.persons name found,
+      sym (group_at_key name (table_at (codes "groups") ms))
+          ∙ find_passes (is_group ms) parts.persons name found,
+    ) in
+    subst P is has)
+    (λ last. let same : place.people ≡ w = cc in subst P same repeats)
+    (either_some shared (Some place.people) w after.1))
+    (either_some (option_map place.person_twice (person_again ms)) (option_or shared (Some place.people)) w h)
+
+repeated_here : (ms : Members) (w : Wrong) → IsRepeated ms (people_in ms) w
+    → HasFault ms (Rights rights.Repeated) w
+unfolding IsRepeated
+repeated_here ms (place.person_twice name) h = h
+repeated_here ms (place.person_and_group name) h = h
+repeated_here ms place.people h = h
+repeated_here ms other h = absurd h
+
+repeated_found : (ms : Members) → is_some (repeated_name ms) ≡ true
+repeated_found ms = some_last (option_map place.person_twice (person_again ms))
+    (option_map place.person_and_group (person_as_group ms)) place.people
+
+repeated_placed : (ms : Members)
+    → repeats_name (people_in ms).persons (people_in ms).groups ≡ true
+    → HasPlace ms (Rights rights.Repeated)
+repeated_placed ms h =
+    let stated : people_in ms ≡ people_stated ms =
+    stated_by_repeats (has_people ms) (people_stated ms) h in
+    let repeats : repeats_name (people_stated ms).persons (people_stated ms).groups ≡ true =
+    subst (λ p. repeats_name p.persons p.groups ≡ true) stated h in
+    let (w, found) = some_of (repeated_name ms) (repeated_found ms) in (
+      w,
+      found,
+      repeated_here ms w
+          (subst (λ p. IsRepeated ms p w) (sym stated) (repeated_has ms w found repeats)),
+    )
+
 people_placed : (ms : Members) (f : RightsFault) → Applies (people_in ms) f
     → HasPlace ms (Rights f)
 unfolding Applies
 people_placed ms rights.BadName h = name_form_placed ms h
-people_placed ms rights.Repeated h = (place.people, refl, h)
+people_placed ms rights.Repeated h = repeated_placed ms h
 people_placed ms rights.UnknownMember h = member_placed ms h
 people_placed ms rights.UnknownSubject h = subject_placed ms h
 people_placed ms rights.NoMemory h = absurd h
@@ -326,7 +401,7 @@ name_found ms h =
     let by_calendar : Option Wrong =
     option_map (λ f. place.calendar_of f.0 f.1) (stray_calendar ms) in
     let by_status : Option Wrong =
-    option_map (λ f. place.status_of f.0 f.1) (stray_status ls ms) in
+    option_map (λ f. place.status_of f.0 f.1) (stray_status (knows_status ls) ms) in
     let by_person : Option Wrong =
     option_map (λ f. place.person_of f.0 f.1) (stray_person people.persons ms) in
     let rights = knows_rights ls people.grants in
@@ -334,10 +409,10 @@ name_found ms h =
     let statuses = knows_ignored ls (levels_of ms) in
     let persons = knows_persons people (tokens_of ms) in
     some_either rights (calendars && (statuses && persons))
-    (option_map (λ f. place.right f.0 f.1) (stray_right ls ms))
+    (option_map (λ f. place.right f.0 f.1) (stray_right (knows_right ls) ms))
     (option_or by_calendar (option_or by_status by_person))
     (grouped_four rights calendars statuses persons h)
-    (λ stray. some_mapped (λ f. place.right f.0 f.1) (stray_right ls ms)
+    (λ stray. some_mapped (λ f. place.right f.0 f.1) (stray_right (knows_right ls) ms)
     (right_found ls 1 (items_at (codes "grant") ms)
     (strays_stated (has_people ms) ls (people_stated ms) stray)))
     (λ rest. some_either calendars (statuses && persons) by_calendar
@@ -345,17 +420,17 @@ name_found ms h =
     (λ stray. some_mapped (λ f. place.calendar_of f.0 f.1) (stray_calendar ms)
     (calendar_found ms levels stray))
     (λ rest. some_either statuses persons by_status by_person rest
-    (λ stray. some_mapped (λ f. place.status_of f.0 f.1) (stray_status ls ms)
+    (λ stray. some_mapped (λ f. place.status_of f.0 f.1) (stray_status (knows_status ls) ms)
     (status_found ls levels stray))
     (λ stray. some_mapped (λ f. place.person_of f.0 f.1) (stray_person people.persons ms)
     (person_found people.persons (table_at (codes "tokens") ms) stray))))
 
 right_placed : (ms : Members) (w : Wrong)
-    → option_map (λ f. place.right f.0 f.1) (stray_right (tables.lifecycles_of ms) ms) ≡ Some w
+    → option_map (λ f. place.right f.0 f.1) (stray_right (knows_right (tables.lifecycles_of ms)) ms) ≡ Some w
     → HasFault ms UnknownName w
 right_placed ms w h =
     let ls = tables.lifecycles_of ms in
-    let (x, found, is) = mapped_some (λ f. place.right f.0 f.1) (stray_right ls ms) w h in
+    let (x, found, is) = mapped_some (λ f. place.right f.0 f.1) (stray_right (knows_right ls) ms) w h in
     subst (HasFault ms UnknownName) is (right_has ls (items_at (codes "grant") ms) x found)
 
 level_calendar_placed : (ms : Members) (w : Wrong)
@@ -366,11 +441,11 @@ level_calendar_placed ms w h =
     subst (HasFault ms UnknownName) is (calendar_has ms (table_at (codes "level") ms) x found)
 
 status_placed : (ms : Members) (w : Wrong)
-    → option_map (λ f. place.status_of f.0 f.1) (stray_status (tables.lifecycles_of ms) ms) ≡ Some w
+    → option_map (λ f. place.status_of f.0 f.1) (stray_status (knows_status (tables.lifecycles_of ms)) ms) ≡ Some w
     → HasFault ms UnknownName w
 status_placed ms w h =
     let ls = tables.lifecycles_of ms in
-    let (x, found, is) = mapped_some (λ f. place.status_of f.0 f.1) (stray_status ls ms) w h in
+    let (x, found, is) = mapped_some (λ f. place.status_of f.0 f.1) (stray_status (knows_status ls) ms) w h in
     subst (HasFault ms UnknownName) is (status_has ls (table_at (codes "level") ms) x found)
 
 person_placed : (ms : Members) (w : Wrong)
@@ -387,7 +462,7 @@ name_has ms w h =
     let by_calendar : Option Wrong =
     option_map (λ f. place.calendar_of f.0 f.1) (stray_calendar ms) in
     let by_status : Option Wrong =
-    option_map (λ f. place.status_of f.0 f.1) (stray_status ls ms) in
+    option_map (λ f. place.status_of f.0 f.1) (stray_status (knows_status ls) ms) in
     let by_person : Option Wrong =
     option_map (λ f. place.person_of f.0 f.1) (stray_person (people_in ms).persons ms) in
     ⊎_elim (right_placed ms w)
@@ -395,7 +470,7 @@ name_has ms w h =
     (λ after. ⊎_elim (status_placed ms w) (λ after. person_placed ms w after.1)
     (either_some by_status by_person w after.1))
     (either_some by_calendar (option_or by_status by_person) w after.1))
-    (either_some (option_map (λ f. place.right f.0 f.1) (stray_right ls ms))
+    (either_some (option_map (λ f. place.right f.0 f.1) (stray_right (knows_right ls) ms))
     (option_or by_calendar (option_or by_status by_person)) w h)
 
 name_placed : (ms : Members) → knows_names ms ≡ false → HasPlace ms UnknownName
@@ -428,22 +503,23 @@ count_has ms k h =
     (λ rest. found_unless (IsBadCount ms) second (codes "max_entries") None k rest
     (λ bad. inr (refl, bad)) (λ none. absurd (cc)))
 
-limit_found : (ms : Members) → has_limits ms ≡ false → is_some (wrong_limit ms) ≡ true
-limit_found ms h =
+limit_told : (ms : Members) → has_limits ms ≡ false → is_some (wrong_limit ms) ≡ true
+limit_told ms h =
     let levels = table_at (codes "level") ms in
     let requests = is_count_at (codes "max_requests") 1000000 ms in
     let entries = is_count_at (codes "max_entries") 10000 ms in
-    some_either (have_limits levels) (requests && entries) (option_map place.level (bad_level ms))
+    some_either (have_limits levels) (requests && entries)
+    (option_map (λ f. place.limit f.0 f.1) (bad_limit ms))
     (option_map place.count (bad_count ms)) (grouped (have_limits levels) requests entries h)
-    (λ bad. some_mapped place.level (bad_level ms) (level_found levels bad))
+    (λ bad. some_mapped (λ f. place.limit f.0 f.1) (bad_limit ms) (limit_found levels bad))
     (λ bad. some_mapped place.count (bad_count ms)
     (count_found requests entries (codes "max_requests") (codes "max_entries") bad))
 
-level_placed : (ms : Members) (w : Wrong) → option_map place.level (bad_level ms) ≡ Some w
-    → HasFault ms BadLimit w
+level_placed : (ms : Members) (w : Wrong)
+    → option_map (λ f. place.limit f.0 f.1) (bad_limit ms) ≡ Some w → HasFault ms BadLimit w
 level_placed ms w h =
-    let (k, found, is) = mapped_some place.level (bad_level ms) w h in
-    subst (HasFault ms BadLimit) is (level_has (table_at (codes "level") ms) k found)
+    let (x, found, is) = mapped_some (λ f. place.limit f.0 f.1) (bad_limit ms) w h in
+    subst (HasFault ms BadLimit) is (limit_has (table_at (codes "level") ms) x found)
 
 count_placed : (ms : Members) (w : Wrong) → option_map place.count (bad_count ms) ≡ Some w
     → HasFault ms BadLimit w
@@ -453,11 +529,11 @@ count_placed ms w h =
 
 limit_placed : (ms : Members) → has_limits ms ≡ false → HasPlace ms BadLimit
 limit_placed ms h =
-    let (w, found) = some_of (wrong_limit ms) (limit_found ms h) in (
+    let (w, found) = some_of (wrong_limit ms) (limit_told ms h) in (
       w,
       found,
       ⊎_elim (level_placed ms w) (λ after. count_placed ms w after.1)
-          (either_some (option_map place.level (bad_level ms))
+          (either_some (option_map (λ f. place.limit f.0 f.1) (bad_limit ms))
           (option_map place.count (bad_count ms)) w
           found),
     )

@@ -14,7 +14,7 @@ use Rattle.text_core.specs.Form.{is_name}
 use Rattle.lifecycle_core.specs.declared.parts.Parts as lifecycles
 use Rattle.rights_core.specs.People.{is_among, lists}
 use Rattle.rights_core.specs.RightsFaults.{has_group, has_known_members}
-use Rattle.settings_parts.specs.LevelParts.{has_limits, level_of}
+use Rattle.settings_parts.specs.LevelParts.{has_limit_at, has_limits, level_of}
 use Rattle.settings_parts.specs.PeopleParts.{groups_in, groups_of, tokens_in}
 use Rattle.settings_parts.specs.Values.{members_of, table_at, texts_at, texts_of}
 use Rattle.settings_core.specs.Levels.{have_limits, levels_in}
@@ -24,11 +24,11 @@ use Rattle.settings_core.specs.Tokens.{is_token}
 use Rattle.settings_core.specs.declared.fault.SettingsFault.{SettingsFault}
 use Rattle.settings_core.specs.declared.named.Named.{Named}
 use Rattle.check_core.specs.BadNames.{bad_group_in}
-use Rattle.check_core.specs.Limits.{bad_level_in}
+use Rattle.check_core.specs.Limits.{bad_key, bad_limit_in}
 use Rattle.check_core.specs.Names.{calendar_of, ignored_stray, stray_calendar_in, stray_person_in}
 use Rattle.check_core.specs.Names.{stray_status_in}
 use Rattle.check_core.specs.Parts.{bad_in}
-use Rattle.check_core.specs.People.{is_named, is_person, stray_member_in, stray_of}
+use Rattle.check_core.specs.People.{is_group, is_named, stray_member_in, stray_of}
 use Rattle.check_core.specs.Placed.{HasTable, has_token}
 use Rattle.check_core.specs.Tokens.{bad_token_in}
 use Rattle.check_core.specs.Values.{text_of}
@@ -75,19 +75,49 @@ fault_of_part part part_of f k (member j d ms) (inr has) = fault_of_part part pa
 
 -- ---- levels
 
-pub level_found : (ms : Members) → have_limits ms ≡ false → is_some (bad_level_in ms) ≡ true
-level_found no_members h = absurd (cc)
-level_found (member k d ms) h =
-    finds_unless (has_limits (members_of d)) (have_limits ms) k (bad_level_in ms) h
-    (level_found ms)
+key_found : (a b c : Bool) (k l m : List ℕ) → (a && b && c) ≡ false
+    → is_some (if a then (if b then (if c then None else Some m) else Some l) else Some k) ≡ true
+key_found false b c k l m h = refl
+key_found true false c k l m h = refl
+key_found true true false k l m h = refl
+key_found true true true k l m h = absurd (cc)
 
-pub level_has : (ms : Members) (k : List ℕ) → bad_level_in ms ≡ Some k
-    → HasTable (λ t. has_limits t ≡ false) k ms
-level_has no_members k h = absurd (cc)
-level_has (member j d ms) k h =
-    found_unless (λ z. HasTable (λ t. has_limits t ≡ false) z (member j d ms))
-    (has_limits (members_of d)) j (bad_level_in ms) k h
-    (λ bad. inl (refl, bad)) (λ rest. inr (level_has ms k rest))
+key_has : (level : Members) (k : List ℕ) → bad_key level ≡ Some k → has_limit_at k level ≡ false
+key_has level k h =
+    let P : List ℕ → Type 0 = λ z. has_limit_at z level ≡ false in
+    let second = has_limit_at (codes "keep_in_loop") level in
+    let third = has_limit_at (codes "resolve") level in
+    let last : Option (List ℕ) = if third then None else Some (codes "resolve") in
+    found_unless P (has_limit_at (codes "response") level) (codes "response")
+    (if second then last else Some (codes "keep_in_loop")) k h (λ bad. bad)
+    (λ rest. found_unless P second (codes "keep_in_loop") last k rest (λ bad. bad)
+    (λ rest. found_unless P third (codes "resolve") None k rest (λ bad. bad) (λ none. absurd (cc))))
+
+pub limit_found : (ms : Members) → have_limits ms ≡ false → is_some (bad_limit_in ms) ≡ true
+limit_found no_members h = absurd (cc)
+limit_found (member k d ms) h =
+    let level = members_of d in
+    some_either (has_limits level) (have_limits ms)
+    (option_map (λ key. (k, key)) (bad_key level)) (bad_limit_in ms) h
+    (λ bad. some_mapped (λ key. (k, key)) (bad_key level)
+    (key_found (has_limit_at (codes "response") level) (has_limit_at (codes "keep_in_loop") level)
+    (has_limit_at (codes "resolve") level) (codes "response") (codes "keep_in_loop")
+    (codes "resolve") bad))
+    (limit_found ms)
+
+pub limit_has : (ms : Members) (x : List ℕ × List ℕ) → bad_limit_in ms ≡ Some x
+    → HasTable (λ t. has_limit_at x.1 t ≡ false) x.0 ms
+limit_has no_members x h = absurd (cc)
+limit_has (member k d ms) x h =
+    let own : Option (List ℕ × List ℕ) = option_map (λ key. (k, key)) (bad_key (members_of d)) in
+    elim (either_some own (bad_limit_in ms) x h) [
+      | inl here ↦
+          let (key, found, is) =
+          mapped_some {B = List ℕ × List ℕ} (λ key. (k, key)) (bad_key (members_of d)) x here in
+          subst (λ z. HasTable (λ t. has_limit_at z.1 t ≡ false) z.0 (member k d ms)) is
+          (inl (refl, key_has (members_of d) key found))
+      | inr there ↦ inr (limit_has ms x there.1)
+    ]
 
 pub calendar_found : (ms levels : Members)
     → list_all (λ l. knows_calendar ms l.value.calendar) (levels_in levels) ≡ false
@@ -112,28 +142,28 @@ calendar_has ms (member k d levels) x h =
 
 pub status_found : (ls : List (Named lifecycles.Parts)) (levels : Members)
     → list_all (λ l. list_all (knows_status ls) l.value.ignore) (levels_in levels) ≡ false
-    → is_some (stray_status_in ls levels) ≡ true
+    → is_some (stray_status_in (knows_status ls) levels) ≡ true
 status_found ls no_members h = absurd (cc)
 status_found ls (member k d levels) h =
     some_either (list_all (knows_status ls) (level_of (members_of d)).ignore)
     (list_all (λ l. list_all (knows_status ls) l.value.ignore) (levels_in levels))
-    (option_map (λ status. (k, status)) (ignored_stray ls d)) (stray_status_in ls levels) h
-    (λ stray. some_mapped (λ status. (k, status)) (ignored_stray ls d)
+    (option_map (λ status. (k, status)) (ignored_stray (knows_status ls) d)) (stray_status_in (knows_status ls) levels) h
+    (λ stray. some_mapped (λ status. (k, status)) (ignored_stray (knows_status ls) d)
     (find_failing (knows_status ls) (knows_status ls) (texts_at (codes "ignore") (members_of d))
     (λ x. refl) stray))
     (status_found ls levels)
 
 pub status_has : (ls : List (Named lifecycles.Parts)) (levels : Members) (x : List ℕ × List ℕ)
-    → stray_status_in ls levels ≡ Some x
+    → stray_status_in (knows_status ls) levels ≡ Some x
     → HasTable (λ t. is_among (level_of t).ignore x.1 ≡ true) x.0 levels
     × (knows_status ls x.1 ≡ false)
 status_has ls no_members x h = absurd (cc)
 status_has ls (member k d levels) x h =
-    let own : Option (List ℕ × List ℕ) = option_map (λ status. (k, status)) (ignored_stray ls d) in
-    elim (either_some own (stray_status_in ls levels) x h) [
+    let own : Option (List ℕ × List ℕ) = option_map (λ status. (k, status)) (ignored_stray (knows_status ls) d) in
+    elim (either_some own (stray_status_in (knows_status ls) levels) x h) [
       | inl here ↦
           let (s, found, is) =
-          mapped_some {B = List ℕ × List ℕ} (λ status. (k, status)) (ignored_stray ls d) x here in
+          mapped_some {B = List ℕ × List ℕ} (λ status. (k, status)) (ignored_stray (knows_status ls) d) x here in
           let texts = texts_at (codes "ignore") (members_of d) in
           subst
           (λ z. HasTable (λ t. is_among (level_of t).ignore z.1 ≡ true) z.0 (member k d levels)
@@ -245,50 +275,50 @@ group_has (member j d groups) k h =
     (λ rest. let (has, bad) = group_has groups k rest in
     (or_right (bytes_eq j k) (has_group (groups_in groups) k) has, bad))
 
-pub same_named : (ms : Members) (name : List ℕ)
-    → (is_among (texts_at (codes "persons") ms) name || has_group (groups_of ms) name)
-    ≡ is_named ms name
-same_named ms name =
-    ap (λ (b : Bool). is_person ms name || b)
+pub same_named : (persons : List (List ℕ)) (ms : Members) (name : List ℕ)
+    → (is_among persons name || has_group (groups_of ms) name) ≡ is_named persons ms name
+same_named persons ms name =
+    ap (λ (b : Bool). is_among persons name || b)
     (sym (group_at_key name (table_at (codes "groups") ms)))
 
-pub member_found : (ms groups : Members)
-    → list_all (has_known_members (texts_at (codes "persons") ms) (groups_of ms))
-    (groups_in groups) ≡ false
-    → is_some (stray_member_in ms groups) ≡ true
-member_found ms no_members h = absurd (cc)
-member_found ms (member k d groups) h =
-    let persons = texts_at (codes "persons") ms in
+pub member_found : (persons : List (List ℕ)) (ms groups : Members)
+    → list_all (has_known_members persons (groups_of ms)) (groups_in groups) ≡ false
+    → is_some (stray_member_in persons ms groups) ≡ true
+member_found persons ms no_members h = absurd (cc)
+member_found persons ms (member k d groups) h =
     let all = groups_of ms in
     some_either
     (list_all (λ name. is_among persons name || has_group all name) (texts_of d))
     (list_all (has_known_members persons all) (groups_in groups))
-    (option_map (λ name. (k, name)) (stray_of ms d)) (stray_member_in ms groups) h
-    (λ stray. some_mapped (λ name. (k, name)) (stray_of ms d)
-    (find_failing (λ name. is_among persons name || has_group all name) (is_named ms) (texts_of d)
-    (same_named ms) stray))
-    (member_found ms groups)
+    (option_map (λ name. (k, name)) (stray_of persons ms d)) (stray_member_in persons ms groups) h
+    (λ stray. some_mapped (λ name. (k, name)) (stray_of persons ms d)
+    (find_failing (λ name. is_among persons name || has_group all name) (is_named persons ms)
+    (texts_of d) (same_named persons ms) stray))
+    (member_found persons ms groups)
 
-pub member_has : (ms groups : Members) (x : List ℕ × List ℕ) → stray_member_in ms groups ≡ Some x
-    → (lists (groups_in groups) x.0 x.1 ≡ true) × (is_named ms x.1 ≡ false)
-member_has ms no_members x h = absurd (cc)
-member_has ms (member k d groups) x h =
-    let own : Option (List ℕ × List ℕ) = option_map (λ name. (k, name)) (stray_of ms d) in
-    elim (either_some own (stray_member_in ms groups) x h) [
+pub member_has : (persons : List (List ℕ)) (ms groups : Members) (x : List ℕ × List ℕ)
+    → stray_member_in persons ms groups ≡ Some x
+    → (lists (groups_in groups) x.0 x.1 ≡ true) × (is_named persons ms x.1 ≡ false)
+member_has persons ms no_members x h = absurd (cc)
+member_has persons ms (member k d groups) x h =
+    let own : Option (List ℕ × List ℕ) =
+    option_map (λ name. (k, name)) (stray_of persons ms d) in
+    elim (either_some own (stray_member_in persons ms groups) x h) [
       | inl here ↦
           let (s, found, is) =
-          mapped_some {B = List ℕ × List ℕ} (λ name. (k, name)) (stray_of ms d) x here in
+          mapped_some {B = List ℕ × List ℕ} (λ name. (k, name)) (stray_of persons ms d) x here in
           subst
-          (λ z. (lists (groups_in (member k d groups)) z.0 z.1 ≡ true) × (is_named ms z.1 ≡ false))
+          (λ z. (lists (groups_in (member k d groups)) z.0 z.1 ≡ true)
+          × (is_named persons ms z.1 ≡ false))
           is (
             or_left (bytes_eq k k && is_among (texts_of d) s) (lists (groups_in groups) k s)
                 (and_both (bytes_eq k k) (is_among (texts_of d) s) (itself k)
-                (find_among (λ name. not (is_named ms name)) (texts_of d) s found)),
-            not_true (is_named ms s)
-                (find_passes (λ name. not (is_named ms name)) (texts_of d) s found),
+                (find_among (λ name. not (is_named persons ms name)) (texts_of d) s found)),
+            not_true (is_named persons ms s)
+                (find_passes (λ name. not (is_named persons ms name)) (texts_of d) s found),
           )
       | inr there ↦
-          let (has, stray) = member_has ms groups x there.1 in (
+          let (has, stray) = member_has persons ms groups x there.1 in (
             or_right (bytes_eq k x.0 && is_among (texts_of d) x.1)
                 (lists (groups_in groups) x.0 x.1) has,
             stray,

@@ -1,6 +1,6 @@
 -- What it means that a place of a settings text has a fault, and that each fault has one.
 use Rattle.std.specs.Prelude.{◌≡◌, ◌⊎◌, ℕ, ◌+◌, Bool, true, false, not, ◌&&◌, List, Some}
-use Rattle.std.specs.Prelude.{◌≤◌, IsSomeAnd, codes, length}
+use Rattle.std.specs.Prelude.{◌≤◌, IsSomeAnd, codes, filter, length}
 use Rattle.std.specs.List.{list_any}
 use Rattle.std.specs.Str.{bytes_eq}
 use Rattle.toml.specs.Data.{Data, Members, no_members, member, get_item}
@@ -11,7 +11,7 @@ use Rattle.rights_core.specs.declared.fault.RightsFault.TheVariants as rights
 use Rattle.rights_core.specs.declared.parts.Parts.{Parts}
 use Rattle.settings_form.specs.Places.{fault_key}
 use Rattle.settings_form.specs.declared.fault.FormFault.TheVariants as form
-use Rattle.settings_parts.specs.LevelParts.{has_limits, level_of}
+use Rattle.settings_parts.specs.LevelParts.{has_limit_at, level_of}
 use Rattle.settings_parts.specs.PeopleParts.{grants_at, people_in, tokens_of}
 use Rattle.settings_parts.specs.Values.{items_at, members_of, table_at, text_at, texts_at}
 use Rattle.settings_parts.specs.declared.people.Token.{Token}
@@ -50,6 +50,10 @@ abbrev pub IsStrayMember : Parts → List ℕ → List ℕ → Type 0
 IsStrayMember people group name =
     (lists people.groups group name ≡ true)
     × (is_among people.persons name ≡ false) × (has_group people.groups name ≡ false)
+
+-- two persons have this name
+abbrev pub IsTwice : List ℕ → List (List ℕ) → Type 0
+IsTwice name persons = 2 ≤ length (filter (λ person. bytes_eq person name) persons)
 
 -- a grant of a table is for a person or a group that isn't there
 abbrev pub grants_to_none : Parts → Members → Bool
@@ -92,6 +96,10 @@ HasFault ms (Rights rights.BadName) (place.person_named name) =
 HasFault ms (Rights rights.BadName) (place.group_named name) =
     (has_group (people_in ms).groups name ≡ true) × (is_name name ≡ false)
 HasFault ms (Rights rights.BadName) (place.granted n name) = HasGrant (IsMisnamed name) n ms
+HasFault ms (Rights rights.Repeated) (place.person_twice name) =
+    IsTwice name (people_in ms).persons
+HasFault ms (Rights rights.Repeated) (place.person_and_group name) =
+    (is_among (people_in ms).persons name ≡ true) × (has_group (people_in ms).groups name ≡ true)
 HasFault ms (Rights rights.Repeated) place.people =
     repeats_name (people_in ms).persons (people_in ms).groups ≡ true
 HasFault ms UnknownName (place.right n right) =
@@ -107,8 +115,8 @@ HasFault ms UnknownName (place.person_of token person) =
     (has_token (tokens_of ms) token person ≡ true) × (knows (people_in ms) person ≡ false)
 HasFault ms BadToken (place.token token person) =
     (has_token (tokens_of ms) token person ≡ true) × (is_token token ≡ false)
-HasFault ms BadLimit (place.level name) =
-    HasTable (λ t. has_limits t ≡ false) name (table_at (codes "level") ms)
+HasFault ms BadLimit (place.limit level key) =
+    HasTable (λ t. has_limit_at key t ≡ false) level (table_at (codes "level") ms)
 HasFault ms BadLimit (place.count key) = IsBadCount ms key
 HasFault ms fault other = ⊥
 

@@ -1,37 +1,103 @@
-//! The first member of a group, and the first grant, whose person or group isn't there.
+//! The first name that stands twice among persons and groups; and the first member of a group, and
+//! the first grant, whose person or group isn't there.
 
-ghost use Rattle.std.specs.Prelude.{◌≡◌};
+ghost use Rattle.std.specs.Prelude.{◌≡◌, [], IfOk};
 ghost use Rattle.std.specs.Option.{option_copied, option_map};
 ghost use Rattle.toml.specs.View.{array_view, table_view, view};
-ghost use Rattle.rights_core.specs.People.{is_among};
 ghost use Rattle.settings_form.specs.Grantee as form;
-ghost use Rattle.settings_parts.specs.Values.{texts_in};
+ghost use Rattle.settings_parts.specs.Values.{texts_at as texts_in_at, texts_in};
+ghost use Rattle.std.specs.Prelude.{codes};
 ghost use Rattle.check_core.specs.People as spec;
 
 use crate::values::text_at;
 use settings_form::grantee::{Grantee, grantee_of};
-use settings_parts::values::{array_at, has_key, table_at, table_of};
+use settings_parts::values::{array_at, has_key, table_at, table_of, texts_at};
+use std::alloc::{AllocError, Global};
+use std::collections::HashSet;
+use text_core::IndexedTexts;
 use toml::value::Array;
 use toml::{Table, Value};
 
-/// The first group that has a member which is neither a person nor a group: its name, and the
-/// member.
-pub fn stray_member(table: &Table) -> Option<(&str, &str)>
-    ensures { option_map (λ f. (f.0.now, f.1.now)) result
-        ≡ spec.stray_member (table_view table.now) }
+/// The persons, of whom one is found by a set of them.
+pub fn persons_of(alloc: Global, table: &Table) -> Result<IndexedTexts, AllocError>
+    ensures { IfOk result (λ persons. persons ≡ texts_in_at (codes "persons") (table_view table.now)) }
 {
-    match table_at(table, "groups") {
-        Some(groups) => stray_member_in(table, groups),
+    IndexedTexts::new(alloc, texts_at(alloc, table, "persons")?)
+}
+
+/// The first person whose name an earlier one has.
+pub fn person_again(alloc: Global, table: &Table) -> Result<Option<&str>, AllocError>
+    ensures { IfOk result (λ name.
+        option_copied name ≡ spec.person_again (table_view table.now)) }
+{
+    match array_at(table, "persons") {
+        Some(persons) => first_again(alloc, persons),
+        None => Ok(None),
+    }
+}
+
+fn first_again(alloc: Global, names: &Array) -> Result<Option<&str>, AllocError>
+    ensures { IfOk result (λ name.
+        option_copied name ≡ spec.first_again [] (texts_in (array_view names.now))) }
+{
+    let mut earlier = HashSet::new(alloc);
+    for value in names {
+        if let Some(name) = value.as_str() {
+            if earlier.contains(name) {
+                return Ok(Some(name));
+            }
+            earlier.insert(String::from_str(alloc, name)?)?;
+        }
+    }
+    Ok(None)
+}
+
+/// The first person whose name a group has.
+pub fn person_as_group(table: &Table) -> Option<&str>
+    ensures { option_copied result ≡ spec.person_as_group (table_view table.now) }
+{
+    match array_at(table, "persons") {
+        Some(persons) => group_among(table, persons),
         None => None,
     }
 }
 
-fn stray_member_in<'t>(table: &Table, groups: &'t Table) -> Option<(&'t str, &'t str)>
+fn group_among<'t>(table: &Table, names: &'t Array) -> Option<&'t str>
+    ensures { option_copied result
+        ≡ spec.group_among (table_view table.now) (texts_in (array_view names.now)) }
+{
+    for value in names {
+        if let Some(name) = value.as_str() {
+            if is_group(table, name) {
+                return Some(name);
+            }
+        }
+    }
+    None
+}
+
+/// The first group that has a member which is none of these persons and no group: its name, and the
+/// member.
+pub fn stray_member<'t>(persons: &IndexedTexts, table: &'t Table) -> Option<(&'t str, &'t str)>
     ensures { option_map (λ f. (f.0.now, f.1.now)) result
-        ≡ spec.stray_member_in (table_view table.now) (table_view groups.now) }
+        ≡ spec.stray_member persons.now (table_view table.now) }
+{
+    match table_at(table, "groups") {
+        Some(groups) => stray_member_in(persons, table, groups),
+        None => None,
+    }
+}
+
+fn stray_member_in<'t>(
+    persons: &IndexedTexts,
+    table: &Table,
+    groups: &'t Table,
+) -> Option<(&'t str, &'t str)>
+    ensures { option_map (λ f. (f.0.now, f.1.now)) result
+        ≡ spec.stray_member_in persons.now (table_view table.now) (table_view groups.now) }
 {
     for (group, value) in groups.iter() {
-        if let Some(member) = stray_of(table, value) {
+        if let Some(member) = stray_of(persons, table, value) {
             return Some((group.as_str(), member));
         }
     }
@@ -39,22 +105,23 @@ fn stray_member_in<'t>(table: &Table, groups: &'t Table) -> Option<(&'t str, &'t
 }
 
 /// The first of a group's members that is neither a person nor a group.
-fn stray_of<'t>(table: &Table, group: &'t Value) -> Option<&'t str>
-    ensures { option_copied result ≡ spec.stray_of (table_view table.now) (view group.now) }
+fn stray_of<'t>(persons: &IndexedTexts, table: &Table, group: &'t Value) -> Option<&'t str>
+    ensures { option_copied result
+        ≡ spec.stray_of persons.now (table_view table.now) (view group.now) }
 {
     match group.as_array() {
-        Some(members) => stray_among(table, members),
+        Some(members) => stray_among(persons, table, members),
         None => None,
     }
 }
 
-fn stray_among<'t>(table: &Table, members: &'t Array) -> Option<&'t str>
-    ensures { option_copied result
-        ≡ spec.stray_among (table_view table.now) (texts_in (array_view members.now)) }
+fn stray_among<'t>(persons: &IndexedTexts, table: &Table, members: &'t Array) -> Option<&'t str>
+    ensures { option_copied result ≡ spec.stray_among persons.now (table_view table.now)
+        (texts_in (array_view members.now)) }
 {
     for value in members {
         if let Some(member) = value.as_str() {
-            if !is_named(table, member) {
+            if !is_named(persons, table, member) {
                 return Some(member);
             }
         }
@@ -63,33 +130,37 @@ fn stray_among<'t>(table: &Table, members: &'t Array) -> Option<&'t str>
 }
 
 /// Whether a person or a group has this name.
-fn is_named(table: &Table, name: &str) -> bool
-    ensures { result ≡ spec.is_named (table_view table.now) name.now }
+fn is_named(persons: &IndexedTexts, table: &Table, name: &str) -> bool
+    ensures { result ≡ spec.is_named persons.now (table_view table.now) name.now }
 {
-    is_person(table, name) || is_group(table, name)
+    persons.contains(name) || is_group(table, name)
 }
 
-/// The first grant of any right for a person or a group that isn't there: which it is, from 1, and
+/// The first grant of any right for none of these persons and no group: which it is, from 1, and
 /// for whom.
-pub fn stray_subject(table: &Table) -> Option<(usize, &str)>
+pub fn stray_subject<'t>(persons: &IndexedTexts, table: &'t Table) -> Option<(usize, &'t str)>
     ensures { option_map (λ f. (f.0, f.1.now)) result
-        ≡ spec.stray_subject (table_view table.now) }
+        ≡ spec.stray_subject persons.now (table_view table.now) }
 {
     match array_at(table, "grant") {
-        Some(grants) => stray_subject_in(table, grants),
+        Some(grants) => stray_subject_in(persons, table, grants),
         None => None,
     }
 }
 
-fn stray_subject_in<'t>(table: &Table, grants: &'t Array) -> Option<(usize, &'t str)>
+fn stray_subject_in<'t>(
+    persons: &IndexedTexts,
+    table: &Table,
+    grants: &'t Array,
+) -> Option<(usize, &'t str)>
     ensures { option_map (λ f. (f.0, f.1.now)) result
-        ≡ spec.stray_subject_in (table_view table.now) 1 (array_view grants.now) }
+        ≡ spec.stray_subject_in persons.now (table_view table.now) 1 (array_view grants.now) }
 {
     let mut number = 0;
     for grant in grants {
         number += 1;
         let to = text_at(grant, "to");
-        if grants_any(grant) && !is_there(table, to) {
+        if grants_any(grant) && !is_there(persons, table, to) {
             return Some((number, to));
         }
     }
@@ -122,45 +193,24 @@ fn has_any(list: &Array) -> bool
 }
 
 /// Whether the person or the group that a grant is for is there.
-fn is_there(table: &Table, to: &str) -> bool
-    ensures { result ≡ spec.is_there (table_view table.now) to.now }
+fn is_there(persons: &IndexedTexts, table: &Table, to: &str) -> bool
+    ensures { result ≡ spec.is_there persons.now (table_view table.now) to.now }
 {
     match grantee_of(to) {
-        Some(grantee) => is_known(table, grantee),
+        Some(grantee) => is_known(persons, table, grantee),
         None => true,
     }
 }
 
-fn is_known(table: &Table, grantee: Grantee<'_>) -> bool
-    ensures { result ≡ spec.is_known (table_view table.now) (form.subject_of grantee.entry) }
+fn is_known(persons: &IndexedTexts, table: &Table, grantee: Grantee<'_>) -> bool
+    ensures { result
+        ≡ spec.is_known persons.now (table_view table.now) (form.subject_of grantee.entry) }
 {
     match grantee {
-        Grantee::Person(name) => is_person(table, name),
+        Grantee::Person(name) => persons.contains(name),
         Grantee::Group(name) => is_group(table, name),
         Grantee::Everyone | Grantee::Role(_) => true,
     }
-}
-
-fn is_person(table: &Table, name: &str) -> bool
-    ensures { result ≡ spec.is_person (table_view table.now) name.now }
-{
-    match array_at(table, "persons") {
-        Some(persons) => has_text(persons, name),
-        None => false,
-    }
-}
-
-fn has_text(list: &Array, name: &str) -> bool
-    ensures { result ≡ is_among (texts_in (array_view list.now)) name.now }
-{
-    for value in list {
-        if let Some(text) = value.as_str() {
-            if text == name {
-                return true;
-            }
-        }
-    }
-    false
 }
 
 fn is_group(table: &Table, name: &str) -> bool

@@ -1,6 +1,5 @@
-//! What is wrong, in words for people.
+//! Where a fault of settings stands, in words for people.
 
-use crate::rows::{Row, Stray, What};
 use crate::wrong::Wrong;
 use settings_form::form::Place;
 use settings_form::walk::{KeyAt, TablePath};
@@ -44,51 +43,22 @@ impl fmt::Display for Wrong<'_> {
             ),
             Wrong::Calendar(name) => write!(f, "[calendar.{name}]"),
             Wrong::Lifecycle(name) => write!(f, "[lifecycle.{name}]"),
-            Wrong::Person(name) => write!(f, "the person `{name}`"),
+            Wrong::Person(name) | Wrong::PersonTwice(name) | Wrong::PersonAndGroup(name) => write!(
+                f,
+                "the person `{name}`"
+            ),
             Wrong::Group(name) => write!(f, "the group `{name}`"),
             Wrong::Granted(number, name) => write!(f, "`{name}` in [[grant]] {number}"),
             Wrong::Member(group, name) => write!(f, "`{name}`, a member of the group `{group}`"),
             Wrong::Subject(number, to) => write!(f, "`{to}` in [[grant]] {number}"),
-            Wrong::People => write!(f, "`persons`, [groups] and [[grant]]"),
+            Wrong::People => write!(f, "`persons` and [groups]"),
             Wrong::Right(number, right) => write!(f, "the right `{right}` in [[grant]] {number}"),
             Wrong::CalendarOf(level, name) => write!(f, "the calendar `{name}` in [level.{level}]"),
             Wrong::StatusOf(level, name) => write!(f, "the status `{name}` in [level.{level}]"),
             Wrong::PersonOf(_, person) => write!(f, "`{person}`, the person of a token"),
             Wrong::Token(_, person) => write!(f, "a token of `{person}`"),
-            Wrong::Level(name) => write!(f, "a limit in [level.{name}]"),
+            Wrong::Limit(level, key) => write!(f, "the limit `{key}` of [level.{level}]"),
             Wrong::Count(key) => write!(f, "the key `{key}` of the text"),
         }
-    }
-}
-
-impl fmt::Display for What {
-    fn fmt<W: fmt::Write>(&self, f: &mut fmt::Formatter<W>) -> fmt::Result {
-        f.write_str(match self {
-            What::Lifecycle => "lifecycle",
-            What::Level => "level",
-            What::Status => "status",
-            What::Owner => "owner",
-            What::Requestor => "requestor",
-            What::Cc => "cc",
-            What::AdminCc => "admincc",
-            What::Actor => "person who made it",
-        })
-    }
-}
-
-impl fmt::Display for Row<'_> {
-    fn fmt<W: fmt::Write>(&self, f: &mut fmt::Formatter<W>) -> fmt::Result {
-        match *self {
-            Row::Queue(name) => write!(f, "queue `{name}`"),
-            Row::Request(id) => write!(f, "request {id}"),
-            Row::Entry(id, number) => write!(f, "request {id}, entry {number}"),
-        }
-    }
-}
-
-impl fmt::Display for Stray<'_> {
-    fn fmt<W: fmt::Write>(&self, f: &mut fmt::Formatter<W>) -> fmt::Result {
-        let Stray { row, what, name } = *self;
-        write!(f, "{row}: the settings don't know the {what} `{name}`")
     }
 }

@@ -1,26 +1,30 @@
 //! What of a settings text has its fault first.
 
 ghost use Rattle.std.specs.Prelude.{◌≡◌, Some, IfOk, IsSomeAnd};
+ghost use Rattle.std.specs.HashSet.{contains_text};
 ghost use Rattle.std.specs.Option.{option_map};
 ghost use Rattle.toml.specs.View.{table_view};
+ghost use Rattle.settings_core.specs.Names.{knows_right, knows_status};
 ghost use Rattle.settings_core.specs.Reading.{fault_of};
+ghost use Rattle.check_core.specs.Names.{is_known_by};
 ghost use Rattle.check_core.specs.Placed.{HasFault};
 ghost use Rattle.check_core.specs.Wrong as spec;
 
 use crate::bad_names::{bad_granted, bad_group, bad_person};
-use crate::limits::{bad_count, bad_level};
+use crate::limits::{bad_count, bad_limit};
 use crate::names::{stray_calendar, stray_person, stray_right, stray_status};
 use crate::parts::{bad_calendar, bad_lifecycle, lifecycles_of};
-use crate::people::{stray_member, stray_subject};
+use crate::people::{person_again, person_as_group, persons_of, stray_member, stray_subject};
 use crate::tokens::bad_token;
 use lifecycle_core::Lifecycle;
 use rights_core::RightsFault;
+use settings_core::known::{Names, rights_of, statuses_of};
 use settings_core::{Named, SettingsFault};
 use settings_form::fault::FormFault;
 use settings_form::walk::{KeyAt, fault_key};
 use settings_parts::people::people_in;
 use std::alloc::{AllocError, Global};
-use text_core::Texts;
+use text_core::IndexedTexts;
 use toml::Table;
 
 /// What of a settings text has its fault. Grants are counted from 1.
@@ -42,7 +46,11 @@ pub enum Wrong<'t> {
     Member(&'t str, &'t str),
     /// A grant, by whom it is for.
     Subject(usize, &'t str),
-    /// The persons, groups and grants.
+    /// Two persons, by their name.
+    PersonTwice(&'t str),
+    /// A person and a group, by their name.
+    PersonAndGroup(&'t str),
+    /// The persons and groups.
     People,
     /// A grant, by this right.
     Right(usize, &'t str),
@@ -54,8 +62,8 @@ pub enum Wrong<'t> {
     PersonOf(&'t str, &'t str),
     /// A token, of this person, by its own form.
     Token(&'t str, &'t str),
-    /// A level, by a limit.
-    Level(&'t str),
+    /// A level, by the limit of this key.
+    Limit(&'t str, &'t str),
     /// The count of this key.
     Count(&'t str),
 }
@@ -98,7 +106,7 @@ fn first_wrong(
             Some(name) => Ok(Some(Wrong::Lifecycle(name))),
             None => Ok(None),
         },
-        SettingsFault::Rights(fault) => Ok(wrong_people(table, fault)),
+        SettingsFault::Rights(fault) => wrong_people(alloc, table, fault),
         SettingsFault::UnknownName => wrong_name(alloc, table),
         SettingsFault::BadToken => match bad_token(table) {
             Some((token, person)) => Ok(Some(Wrong::Token(token, person))),
@@ -118,22 +126,64 @@ fn wrong_key(fault: FormFault, table: &Table) -> Option<Wrong<'_>>
     }
 }
 
-/// What has a fault of persons, groups and grants: the name that isn't of its form, the member or
-/// the grant that names one who isn't there, or else all of them.
-fn wrong_people(table: &Table, fault: RightsFault) -> Option<Wrong<'_>>
-    ensures { option_map spec.seen result ≡ spec.wrong_people (table_view table.now) fault }
+/// What has a fault of persons, groups and grants: the name that isn't of its form or stands twice,
+/// or the member or the grant that names one who isn't there.
+fn wrong_people(
+    alloc: Global,
+    table: &Table,
+    fault: RightsFault,
+) -> Result<Option<Wrong<'_>>, AllocError>
+    ensures { IfOk result (λ wrong. option_map spec.seen wrong
+        ≡ spec.wrong_people (table_view table.now) fault) }
 {
     match fault {
-        RightsFault::BadName => bad_name(table),
-        RightsFault::UnknownMember => match stray_member(table) {
-            Some((group, member)) => Some(Wrong::Member(group, member)),
-            None => None,
-        },
-        RightsFault::UnknownSubject => match stray_subject(table) {
-            Some((number, to)) => Some(Wrong::Subject(number, to)),
-            None => None,
-        },
-        _ => Some(Wrong::People),
+        RightsFault::BadName => Ok(bad_name(table)),
+        RightsFault::Repeated => repeated_name(alloc, table),
+        RightsFault::UnknownMember => {
+            let persons = persons_of(alloc, table)?;
+            Ok(wrong_member(&persons, table))
+        }
+        RightsFault::UnknownSubject => {
+            let persons = persons_of(alloc, table)?;
+            Ok(wrong_subject(&persons, table))
+        }
+        RightsFault::NoMemory => Ok(Some(Wrong::People)),
+    }
+}
+
+/// The first name that stands twice: of two persons, or else of a person and a group.
+fn repeated_name(alloc: Global, table: &Table) -> Result<Option<Wrong<'_>>, AllocError>
+    ensures { IfOk result (λ wrong. option_map spec.seen wrong
+        ≡ spec.wrong_people (table_view table.now) RightsFault.Repeated) }
+{
+    if let Some(name) = person_again(alloc, table)? {
+        return Ok(Some(Wrong::PersonTwice(name)));
+    }
+    match person_as_group(table) {
+        Some(name) => Ok(Some(Wrong::PersonAndGroup(name))),
+        None => Ok(Some(Wrong::People)),
+    }
+}
+
+/// The first member of a group that is none of these persons and no group.
+fn wrong_member<'t>(persons: &IndexedTexts, table: &'t Table) -> Option<Wrong<'t>>
+    ensures { option_map spec.seen result
+        ≡ spec.wrong_member persons.now (table_view table.now) }
+{
+    match stray_member(persons, table) {
+        Some((group, member)) => Some(Wrong::Member(group, member)),
+        None => None,
+    }
+}
+
+/// The first grant of any right for none of these persons and no group.
+fn wrong_subject<'t>(persons: &IndexedTexts, table: &'t Table) -> Option<Wrong<'t>>
+    ensures { option_map spec.seen result
+        ≡ spec.wrong_subject persons.now (table_view table.now) }
+{
+    match stray_subject(persons, table) {
+        Some((number, to)) => Some(Wrong::Subject(number, to)),
+        None => None,
     }
 }
 
@@ -161,27 +211,45 @@ fn wrong_name(alloc: Global, table: &Table) -> Result<Option<Wrong<'_>>, AllocEr
         ≡ spec.wrong_name (table_view table.now)) }
 {
     let people = people_in(alloc, table)?;
+    let persons = IndexedTexts::new(alloc, people.persons)?;
     match lifecycles_of(alloc, table) {
-        Ok(lifecycles) => Ok(stray_name(lifecycles.as_slice(), &people.persons, table)),
+        Ok(lifecycles) => stray_name_by(alloc, lifecycles.as_slice(), &persons, table),
         Err(_) => Err(AllocError),
     }
 }
 
-fn stray_name<'t>(
+fn stray_name_by<'t>(
+    alloc: Global,
     lifecycles: &[Named<Lifecycle>],
-    persons: &Texts,
+    persons: &IndexedTexts,
+    table: &'t Table,
+) -> Result<Option<Wrong<'t>>, AllocError>
+    ensures { IfOk result (λ wrong. option_map spec.seen wrong
+        ≡ spec.stray_name (knows_right lifecycles.now) (knows_status lifecycles.now)
+        persons.now (table_view table.now)) }
+{
+    let rights = rights_of(alloc, lifecycles)?;
+    let statuses = statuses_of(alloc, lifecycles)?;
+    Ok(stray_name(&rights, &statuses, persons, table))
+}
+
+fn stray_name<'t>(
+    rights: &Names,
+    statuses: &Names,
+    persons: &IndexedTexts,
     table: &'t Table,
 ) -> Option<Wrong<'t>>
     ensures { option_map spec.seen result
-        ≡ spec.stray_name lifecycles.now persons.now (table_view table.now) }
+        ≡ spec.stray_name (is_known_by (contains_text rights.now)) (contains_text statuses.now)
+        persons.now (table_view table.now) }
 {
-    if let Some((number, right)) = stray_right(lifecycles, table) {
+    if let Some((number, right)) = stray_right(rights, table) {
         return Some(Wrong::Right(number, right));
     }
     if let Some((level, calendar)) = stray_calendar(table) {
         return Some(Wrong::CalendarOf(level, calendar));
     }
-    if let Some((level, status)) = stray_status(lifecycles, table) {
+    if let Some((level, status)) = stray_status(statuses, table) {
         return Some(Wrong::StatusOf(level, status));
     }
     match stray_person(persons, table) {
@@ -190,12 +258,12 @@ fn stray_name<'t>(
     }
 }
 
-/// The first level with a limit out of its bounds, or else the first count that is out of them.
+/// The first limit of a level that is out of its bounds, or else the first count that is out of them.
 fn wrong_limit(table: &Table) -> Option<Wrong<'_>>
     ensures { option_map spec.seen result ≡ spec.wrong_limit (table_view table.now) }
 {
-    match bad_level(table) {
-        Some(level) => Some(Wrong::Level(level)),
+    match bad_limit(table) {
+        Some((level, key)) => Some(Wrong::Limit(level, key)),
         None => match bad_count(table) {
             Some(key) => Some(Wrong::Count(key)),
             None => None,

@@ -9,8 +9,9 @@ use Rattle.std.specs.Str.{bytes_eq}
 use Rattle.std.proofs.lemmas.Bool.{eqb-true, le-leb, le-ltb, or_cases}
 use Rattle.std.proofs.lemmas.Slice.Eq.{bytes_eq-Decides}
 use Rattle.std.proofs.Math.Seq.{drop-append_seam}
-use Rattle.message_core.specs.Reply.{IsReply, allow_line, bytes_of, fields, is_reply_code}
-use Rattle.message_core.specs.Reply.{last_line, reply_codes, status_line, type_line}
+use Rattle.message_core.specs.Reply.{IsReply, bytes_of, is_reply_code, last_line}
+use Rattle.message_core.specs.Reply.{reply_codes, status_line}
+use Rattle.message_core.proofs.ReplyLemmas.{allow_line, fields, head_is, type_line}
 use Rattle.message_core.specs.declared.reply.Allow.{Allow}
 use Rattle.message_core.specs.declared.reply.Allow.TheVariants.{Get, GetPost, Post}
 use Rattle.message_core.specs.declared.reply.Reply.{Reply}
@@ -59,10 +60,7 @@ type_begins rest = refl
 allow_begins : (allow : Option Allow) (rest : List ℕ)
     → (more : List ℕ) × (allow_line allow ++ rest ≡ 13 ∷ more)
 unfolding allow_line
-allow_begins None rest = (_, refl)
-allow_begins (Some Get) rest = (_, refl)
-allow_begins (Some Post) rest = (_, refl)
-allow_begins (Some GetPost) rest = (_, refl)
+allow_begins allow rest = (_, refl)
 
 -- what is stated is read
 stated : (allow : Option Allow) (n : ℕ) (body : List ℕ) → n < 2 ^ 32
@@ -144,8 +142,12 @@ back : (code : ℕ) (allow : Option Allow) (text : List ℕ) → is_reply_code c
 back code allow text known some small =
     let leads = one_of reply_codes each_leads code known in
     let bytes = bytes_of (told code allow text) in
-    let first : code_in bytes ≡ Some code = code_back code (fields allow (length text) ++ text) leads in
-    let second : text_in bytes ≡ Some text = text_back code allow text leads small in
+    let rest = fields allow (length text) ++ text in
+    let whole : bytes ≡ status_line code ++ rest =
+    ap (λ (l : List ℕ). l ++ text) (head_is code allow (length text))
+    ∙ append_assoc (status_line code) (fields allow (length text)) text in
+    let first : code_in bytes ≡ Some code = ap code_in whole ∙ code_back code rest leads in
+    let second : text_in bytes ≡ Some text = ap text_in whole ∙ text_back code allow text leads small in
     let is : is_one_of bytes code text ≡ true =
     found bytes code allow text (code == 405) refl some refl in
     rw (first, second, is) refl

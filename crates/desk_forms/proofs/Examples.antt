@@ -1,6 +1,8 @@
 -- Examples of the definitions: numbers in words at their limits, names of roles and links, and the
 -- commands for which words and keys ask, or which they don't make.
-use Rattle.std.specs.Prelude.{◌≡◌, refl, true, false, List, [], ◌∷◌, codes, Some, None}
+use Rattle.std.specs.Prelude.{◌≡◌, refl, ℕ, Bool, true, false, ◌&&◌, List, [], ◌∷◌, filter, length}
+use Rattle.std.specs.Prelude.{map, codes, Some, None}
+use Rattle.std.specs.Str.{bytes_eq}
 use Rattle.desk_model.specs.declared.command.Command.TheVariants as command
 use Rattle.desk_model.specs.declared.rows.LinkKind.TheVariants.{DependsOn, MemberOf, RefersTo}
 use Rattle.desk_model.specs.declared.rows.WatchRole.TheVariants.{Requestor, Cc, AdminCc}
@@ -8,12 +10,16 @@ use Rattle.desk_forms.specs.Asked.{asked}
 use Rattle.desk_forms.specs.Keys.{is_key}
 use Rattle.desk_forms.specs.Links.{kind_named, linking}
 use Rattle.desk_forms.specs.Number.{number_of}
-use Rattle.desk_forms.specs.Paths.{InQueue, Nothing, OnRequest}
+use Rattle.desk_forms.specs.Paths as path
+use Rattle.desk_forms.specs.Paths.{InQueue, Nothing, OnRequest, Part}
 use Rattle.desk_forms.specs.Roles.{role_named}
 use Rattle.desk_forms.specs.Sheet.{Sheet}
-use Rattle.desk_forms.specs.Table.{arguments, made, words}
+use Rattle.desk_forms.specs.Table.{arguments, made, paths, words}
 use Rattle.desk_forms.specs.Values.{blank}
 use Rattle.desk_forms.specs.Words.{asks, row_in}
+use Rattle.desk_forms.specs.declared.paths.Method.{Method}
+use Rattle.desk_forms.specs.declared.paths.Method.TheVariants.{Get, Post}
+use Rattle.desk_forms.specs.declared.table.Form.{Form}
 use Rattle.desk_forms.specs.declared.links.NamedKind.TheVariants.{Plain, Inverse}
 use Rattle.desk_forms.specs.declared.table.Form.TheVariants as form
 
@@ -190,3 +196,112 @@ reply_needs_no_texts :
     asked form.Reply (record sheet { texts = λ k. None })
     ≡ Some (command.Reply 7 (codes "HasMember"))
 reply_needs_no_texts = refl
+
+-- Table.antt: what a method and a path lead to
+
+abbrev is_part : Part → Part → Bool
+is_part (path.lit a) (path.lit b) = bytes_eq a b
+is_part path.queue path.queue = true
+is_part path.id path.id = true
+is_part a b = false
+
+abbrev are_parts : List Part → List Part → Bool
+are_parts [] [] = true
+are_parts (p ∷ ps) (q ∷ qs) = is_part p q && are_parts ps qs
+are_parts ps qs = false
+
+abbrev is_method : Method → Method → Bool
+is_method Get Get = true
+is_method Post Post = true
+is_method a b = false
+
+-- the forms of all rows that have both
+abbrev led_to : Method → List Part → List Form
+led_to method parts =
+    map (λ row. row.leads)
+    (filter (λ row. is_method row.method method && are_parts row.parts parts) paths)
+
+abbrev fixed : List ℕ → List Part
+fixed name = path.lit name ∷ []
+
+-- /queues/QUEUE/requests
+abbrev in_a_queue : List Part
+in_a_queue = path.lit (codes "queues") ∷ path.queue ∷ path.lit (codes "requests") ∷ []
+
+-- /requests/ID
+abbrev on_a_request : List Part
+on_a_request = path.lit (codes "requests") ∷ path.id ∷ []
+
+-- /requests/ID/ACT
+abbrev by_an_act : List ℕ → List Part
+by_an_act name = path.lit (codes "requests") ∷ path.id ∷ path.lit name ∷ []
+
+twenty_rows : length paths ≡ 20
+unfolding paths
+twenty_rows = refl
+
+queues_are_listed : led_to Get (fixed (codes "queues")) ≡ form.Queues ∷ []
+unfolding paths
+queues_are_listed = refl
+
+queue_is_opened : led_to Post (fixed (codes "queues")) ≡ form.OpenQueue ∷ []
+unfolding paths
+queue_is_opened = refl
+
+requests_of_a_queue_are_listed : led_to Get in_a_queue ≡ form.List ∷ []
+unfolding paths
+requests_of_a_queue_are_listed = refl
+
+request_is_filed_in_a_queue : led_to Post in_a_queue ≡ form.Create ∷ []
+unfolding paths
+request_is_filed_in_a_queue = refl
+
+request_is_shown : led_to Get on_a_request ≡ form.Show ∷ []
+unfolding paths
+request_is_shown = refl
+
+nothing_is_posted_to_a_request : led_to Post on_a_request ≡ []
+unfolding paths
+nothing_is_posted_to_a_request = refl
+
+history_is_read : led_to Get (by_an_act (codes "history")) ≡ form.History ∷ []
+unfolding paths
+history_is_read = refl
+
+history_is_not_posted : led_to Post (by_an_act (codes "history")) ≡ []
+unfolding paths
+history_is_not_posted = refl
+
+acts_on_a_request :
+    map (λ name. led_to Post (by_an_act name))
+    (codes "status" ∷ codes "take" ∷ codes "steal" ∷ codes "untake" ∷ codes "give" ∷ codes "reply"
+    ∷ codes "comment" ∷ codes "watch" ∷ codes "unwatch" ∷ codes "link" ∷ codes "unlink"
+    ∷ codes "level" ∷ [])
+    ≡ (form.SetStatus ∷ []) ∷ (form.Take ∷ []) ∷ (form.Steal ∷ []) ∷ (form.Untake ∷ [])
+    ∷ (form.Give ∷ []) ∷ (form.Reply ∷ []) ∷ (form.Comment ∷ []) ∷ (form.Watch ∷ [])
+    ∷ (form.Unwatch ∷ []) ∷ (form.Link ∷ []) ∷ (form.Unlink ∷ []) ∷ (form.SetLevel ∷ []) ∷ []
+unfolding paths
+acts_on_a_request = refl
+
+-- a word of the command line, and a reading's method
+no_acts :
+    map (λ name. led_to Post (by_an_act name)) (codes "resolve" ∷ codes "correspond" ∷ [])
+    ≡ [] ∷ [] ∷ []
+unfolding paths
+no_acts = refl
+
+act_is_not_read : led_to Get (by_an_act (codes "take")) ≡ []
+unfolding paths
+act_is_not_read = refl
+
+late_requests_are_listed : led_to Get (fixed (codes "overdue")) ≡ form.Overdue ∷ []
+unfolding paths
+late_requests_are_listed = refl
+
+workload_is_told : led_to Get (fixed (codes "workload")) ≡ form.Workload ∷ []
+unfolding paths
+workload_is_told = refl
+
+requests_alone_lead_nowhere : led_to Get (fixed (codes "requests")) ≡ []
+unfolding paths
+requests_alone_lead_nowhere = refl

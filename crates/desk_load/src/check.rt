@@ -2,13 +2,12 @@
 
 use crate::files::read_settings;
 use crate::options::Asked;
-use check_core::lines::line_at;
 use check_core::tables::first_fault;
-use check_core::wrong::wrong_in;
+use check_core::text::settings_told;
 use desk_program::tell_input_fault;
 use settings_core::{Settings, SettingsFault};
 use sqlite::Connection;
-use std::alloc::{AllocError, Global};
+use std::alloc::AllocError;
 use std::fs::File;
 use std::io::{self, ErrorKind, Read};
 use store_core::{Store, StoreFault};
@@ -84,24 +83,6 @@ fn has_tables(rt: &HostRuntime, path: &str) -> bool {
             !matches!(file.read(&mut byte), Ok(0))
         }
         Err(error) => error.kind() != ErrorKind::NotFound,
-    }
-}
-
-/// The fault of a settings text, and where it stands first.
-fn settings_told(alloc: Global, text: &[u8], fault: SettingsFault) -> Result<String, AllocError> {
-    match toml::table_from_slice(alloc, text) {
-        Ok(table) => match wrong_in(alloc, &table, fault)? {
-            Some(wrong) => format!(in alloc; "settings: {wrong}: {fault}"),
-            None => format!(in alloc; "settings: {fault}"),
-        },
-        Err(error) => {
-            let Some(span) = error.span() else {
-                return Err(AllocError);
-            };
-            let line = line_at(text, span.start);
-            let why = error.message();
-            format!(in alloc; "settings: line {line}: {why}")
-        }
     }
 }
 

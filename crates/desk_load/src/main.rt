@@ -7,10 +7,13 @@ mod load;
 mod options;
 mod progress;
 mod tables;
+mod usage;
 
 use options::{Task, asked_of};
+use release::{print_alone, tell_wrong};
 use std::process::ExitCode;
 use std::{env, io};
+use usage::{HELP, OPTIONS};
 
 /// The exit status of words that the program doesn't know.
 const BAD_WORDS: u8 = 2;
@@ -22,7 +25,8 @@ const FAILED_WRITE: u8 = 4;
 /// file, and prints each answer that tells more than that a command is done, with its line's number.
 /// With `--all` it prints each, with `--stop` the first refusal ends it, and with `--from N` it
 /// begins with line N. With `--check` it reads no line, and prints what is wrong first with the
-/// settings and the file. All else is `bad words`.
+/// settings and the file. `--help` and `--version` tell of
+/// it. All else is `bad words`.
 fn main(rt: HostRuntime) -> ExitCode {
     match words_of(&rt) {
         Ok(words) => ExitCode::from(run(&rt, words.as_slice())),
@@ -40,12 +44,21 @@ fn words_of(rt: &HostRuntime) -> io::Result<Vec<String>> {
 }
 
 fn run(rt: &HostRuntime, words: &[String]) -> u8 {
+    if let Some(printed) = print_alone(rt, "desk_load", HELP, words) {
+        return match printed {
+            Ok(()) => 0,
+            Err(_) => FAILED_WRITE,
+        };
+    }
     match asked_of(rt.alloc(), words) {
         Some(asked) => match asked.task {
             Task::Load(plan) => tables::run(rt, &asked, plan),
             Task::Check => check::run(rt, &asked),
         },
-        None => refuse(rt),
+        None => {
+            let _told = tell_wrong(rt, "desk_load", &OPTIONS, words);
+            refuse(rt)
+        }
     }
 }
 

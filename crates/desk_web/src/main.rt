@@ -6,10 +6,13 @@ mod files;
 mod options;
 mod server;
 mod tables;
+mod usage;
 
 use options::{Asked, asked_of};
+use release::{print_alone, tell_wrong};
 use std::process::ExitCode;
 use std::{env, io};
+use usage::{HELP, OPTIONS};
 
 /// The exit status of words that the program doesn't know.
 const BAD_WORDS: u8 = 2;
@@ -20,7 +23,8 @@ const FAILED_WRITE: u8 = 4;
 /// `desk_web --db FILE --settings FILE --port N` serves the desk of that file to all who connect to
 /// that port on the loopback. With `--count K` it ends once it has answered K messages, with
 /// `--log` it prints a line for each, and with `--proxy` that has the address that the proxy tells.
-/// With `--copies FILE` it copies its tables there when it is asked to. All else is `bad words`.
+/// With `--copies FILE` it copies its tables there when it is asked to. `--help` and `--version` tell of
+/// it. All else is `bad words`.
 fn main(rt: HostRuntime) -> ExitCode {
     match words_of(&rt) {
         Ok(words) => ExitCode::from(run(&rt, words.as_slice())),
@@ -38,9 +42,18 @@ fn words_of(rt: &HostRuntime) -> io::Result<Vec<String>> {
 }
 
 fn run(rt: &HostRuntime, words: &[String]) -> u8 {
+    if let Some(printed) = print_alone(rt, "desk_web", HELP, words) {
+        return match printed {
+            Ok(()) => 0,
+            Err(_) => FAILED_WRITE,
+        };
+    }
     match asked_of(rt.alloc(), words) {
         Some(asked) => tables::run(rt, &asked),
-        None => refuse(rt),
+        None => {
+            let _told = tell_wrong(rt, "desk_web", &OPTIONS, words);
+            refuse(rt)
+        }
     }
 }
 

@@ -2,16 +2,18 @@
 -- and last minutes; counting over gaps, up to closing time and up to the end of all moments; limits
 -- with ignored stays; faults and which of two comes first.
 use Rattle.std.specs.Prelude.{◌≡◌, refl, ℕ, zero, suc, ◌+◌, Bool, true, false, List, [], ◌∷◌}
-use Rattle.std.specs.Prelude.{ℤ, pos, neg_ℤ, nat_lt, if◌then◌else◌, codes, Option, Some, None}
+use Rattle.std.specs.Prelude.{ℤ, pos, neg_ℤ, nat_le, nat_lt, if◌then◌else◌, codes, Option, Some, None}
 use Rattle.std.specs.Prelude.{Ok, Err}
 use Rattle.days.specs.Dates.{date_of_day}
+use Rattle.hours_core.specs.Calendar.{spans_of}
 use Rattle.hours_core.specs.Counting.{add_of, count, count_of_next, first_of, has_passed}
 use Rattle.hours_core.specs.Date.{date_of_minute, text_of_minute}
 use Rattle.hours_core.specs.Fault.{name_of, number_of}
-use Rattle.hours_core.specs.Hours.{Hours, calendar_fault, hours_of, intervals_on, is_open, is_within}
-use Rattle.hours_core.specs.Least.{least_of_next}
+use Rattle.hours_core.specs.Hours.{Hours, are_intervals, are_years, calendar_fault, hours_of}
+use Rattle.hours_core.specs.Hours.{intervals_on, is_day, is_open, is_within}
+use Rattle.hours_core.specs.Least.{least, least_of_next}
 use Rattle.hours_core.specs.Limit.{limit_due, minutes_after, plain_due}
-use Rattle.hours_core.specs.Moment.{is_due_moment, is_moment}
+use Rattle.hours_core.specs.Moment.{end_minute, first_minute, is_due_moment, is_moment}
 use Rattle.hours_core.specs.Pauses.{are_in_order, is_paused}
 use Rattle.hours_core.specs.Probes.{at_least, halvings, most_probes}
 use Rattle.hours_core.specs.Rules.{are_offsets, changes_of, zone_by_rule, zone_in}
@@ -765,3 +767,101 @@ two_stays_that_begin_together = refl
 stay_that_begins_before_the_last :
     are_in_order 5 (stay (codes "new") 6 None ∷ stay (codes "open") 5 None ∷ []) ≡ false
 stay_that_begins_before_the_last = refl
+
+-- Moment.antt: both ends in text
+
+first_minute_begins_2000 : text_of_minute first_minute ≡ codes "2000-01-01 00:00"
+unfolding date_of_day
+first_minute_begins_2000 = refl
+
+end_minute_begins_2100 : text_of_minute end_minute ≡ codes "2100-01-01 00:00"
+unfolding date_of_day
+end_minute_begins_2100 = refl
+
+-- Least.antt: of the numbers from 5 on
+
+least_behind_the_first : least (nat_le 5) 3 9 ≡ Some 5
+unfolding least_of_next
+least_behind_the_first = refl
+
+least_is_the_first : least (nat_le 5) 7 9 ≡ Some 7
+unfolding least_of_next
+least_is_the_first = refl
+
+least_just_below_the_bound : least (nat_le 5) 3 6 ≡ Some 5
+unfolding least_of_next
+least_just_below_the_bound = refl
+
+bound_itself_is_none : least (nat_le 5) 3 5 ≡ None
+unfolding least_of_next
+bound_itself_is_none = refl
+
+none_where_the_bound_is_the_first : least (nat_le 5) 7 7 ≡ None
+unfolding least_of_next
+none_where_the_bound_is_the_first = refl
+
+-- Hours.antt: intervals, days and years
+
+intervals_from_the_earliest : are_intervals 540 ((540, 1080) ∷ []) ≡ true
+intervals_from_the_earliest = refl
+
+intervals_before_the_earliest : are_intervals 541 ((540, 1080) ∷ []) ≡ false
+intervals_before_the_earliest = refl
+
+intervals_up_to_midnight : are_intervals 0 ((0, 1) ∷ (1, 1440) ∷ []) ≡ true
+intervals_up_to_midnight = refl
+
+intervals_past_midnight : are_intervals 0 ((0, 1) ∷ (1, 1441) ∷ []) ≡ false
+intervals_past_midnight = refl
+
+interval_of_no_minute_among_others : are_intervals 0 ((0, 1) ∷ (2, 2) ∷ []) ≡ false
+interval_of_no_minute_among_others = refl
+
+intervals_out_of_order : are_intervals 0 ((780, 1080) ∷ (540, 720) ∷ []) ≡ false
+intervals_out_of_order = refl
+
+day_of_four_intervals : is_day ((0, 1) ∷ (1, 2) ∷ (2, 3) ∷ (3, 1440) ∷ []) ≡ true
+day_of_four_intervals = refl
+
+day_of_five_intervals : is_day ((0, 1) ∷ (1, 2) ∷ (2, 3) ∷ (3, 4) ∷ (4, 1440) ∷ []) ≡ false
+day_of_five_intervals = refl
+
+day_without_intervals : is_day [] ≡ true
+day_without_intervals = refl
+
+day_of_intervals_that_overlap : is_day ((0, 2) ∷ (1, 3) ∷ []) ≡ false
+day_of_intervals_that_overlap = refl
+
+all_years : are_years (pos 2000, pos 2099) ≡ true
+all_years = refl
+
+years_from_before_the_first : are_years (pos 1999, pos 2099) ≡ false
+years_from_before_the_first = refl
+
+years_to_past_the_last : are_years (pos 2000, pos 2100) ≡ false
+years_to_past_the_last = refl
+
+one_year_alone : are_years (pos 2099, pos 2099) ≡ true
+one_year_alone = refl
+
+years_that_end_before_they_begin : are_years (pos 2027, pos 2026) ≡ false
+years_that_end_before_they_begin = refl
+
+-- Spans.antt, Calendar.antt, Counted.antt
+
+no_span_holds_a_minute : is_held [] (at 40) ≡ false
+no_span_holds_a_minute = refl
+
+minute_before_a_span_is_not_held : is_held two_spans (at 39) ≡ false
+minute_before_a_span_is_not_held = refl
+
+last_minute_of_a_span_is_held : is_held two_spans (at 49) ≡ true
+last_minute_of_a_span_is_held = refl
+
+spans_of_a_calendar : spans_of (record { spans = two_spans }) ≡ two_spans
+unfolding spans_of
+spans_of_a_calendar = refl
+
+spans_of_a_calendar_that_is_never_open : spans_of (record { spans = [] }) ≡ []
+unfolding spans_of
+spans_of_a_calendar_that_is_never_open = refl

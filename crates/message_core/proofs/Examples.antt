@@ -21,8 +21,8 @@ use Rattle.message_core.specs.Fault.{name_of, number_of, tells_failed_read}
 use Rattle.message_core.specs.Heading.{Line, length_of, number_within, token_of}
 use Rattle.message_core.specs.Limits.{limit_at, most_of, takes_long_bodies}
 use Rattle.message_core.specs.Message.{completed, left_of}
-use Rattle.message_core.specs.Reply.{allow_line, bytes_of, fields, last_line, status_line}
-use Rattle.message_core.specs.Reply.{type_line}
+use Rattle.message_core.specs.Reply.{bytes_of, content_length_line, content_type_line, head_of}
+use Rattle.message_core.specs.Reply.{last_line, methods_line, status_line, text_kind}
 use Rattle.message_core.specs.Reply.{unavailable}
 use Rattle.message_core.specs.Request.{all_values, message_in, one_value, requested, value_in}
 use Rattle.message_core.specs.Request.{values_in}
@@ -195,7 +195,7 @@ bytes_of_a_reply :
     bytes_of reply
     ≡ codes "HTTP/1.1 201 Created\r\nContent-Type: text/plain; charset=utf-8\r\n"
     ++ codes "Content-Length: 10\r\nConnection: close\r\n\r\nrequest 1\n"
-unfolding status_line fields type_line allow_line last_line digits
+unfolding status_line text_kind head_of content_type_line content_length_line methods_line last_line digits
 bytes_of_a_reply = refl
 
 -- without its body, whose length is told
@@ -203,7 +203,7 @@ reply_to_a_head :
     bytes_of (record reply { head_only = true })
     ≡ codes "HTTP/1.1 201 Created\r\nContent-Type: text/plain; charset=utf-8\r\n"
     ++ codes "Content-Length: 10\r\nConnection: close\r\n\r\n"
-unfolding status_line fields type_line allow_line last_line digits
+unfolding status_line text_kind head_of content_type_line content_length_line methods_line last_line digits
 reply_to_a_head = refl
 
 abbrev bad_method : Reply
@@ -213,22 +213,22 @@ reply_with_the_methods_of_a_path :
     bytes_of bad_method
     ≡ codes "HTTP/1.1 405 Method Not Allowed\r\nContent-Type: text/plain; charset=utf-8\r\n"
     ++ codes "Content-Length: 1\r\nAllow: GET, POST\r\nConnection: close\r\n\r\nx"
-unfolding status_line fields type_line allow_line last_line digits
+unfolding status_line text_kind head_of content_type_line content_length_line methods_line last_line digits
 reply_with_the_methods_of_a_path = refl
 
-get_alone : allow_line (Some Get) ≡ codes "\r\nAllow: GET\r\n"
-unfolding allow_line
+get_alone : methods_line (Some Get) ≡ codes "Allow: GET\r\n"
+unfolding methods_line
 get_alone = refl
 
-post_alone : allow_line (Some Post) ≡ codes "\r\nAllow: POST\r\n"
-unfolding allow_line
+post_alone : methods_line (Some Post) ≡ codes "Allow: POST\r\n"
+unfolding methods_line
 post_alone = refl
 
 reply_without_memory :
     bytes_of (unavailable false)
     ≡ codes "HTTP/1.1 503 Service Unavailable\r\nContent-Type: text/plain; charset=utf-8\r\n"
     ++ codes "Content-Length: 23\r\nConnection: close\r\n\r\nrefused 16 Unavailable\n"
-unfolding status_line fields type_line allow_line last_line digits
+unfolding status_line text_kind head_of content_type_line content_length_line methods_line last_line digits
 reply_without_memory = refl
 
 -- Stated.antt: heads, as a tree and as bytes

@@ -1,14 +1,15 @@
 -- How long a reply is.
-use Rattle.std.proofs.Common.{◌≡◌, inl, inr, ℕ, ◌≤◌, ◌<◌, ◌+◌, ◌==◌, true, false}
+use Rattle.std.proofs.Common.{◌≡◌, ◌∙◌, inl, inr, ℕ, ◌≤◌, ◌<◌, ◌+◌, ◌==◌, true, false}
 use Rattle.std.proofs.Common.{List, [], ◌∷◌, ◌++◌, length, length-append, Option, Some, None, sym}
-use Rattle.std.proofs.Common.{refl, subst, decimal, arith, lit≤, lit<}
+use Rattle.std.proofs.Common.{refl, ap, append_assoc, subst, codes, decimal, arith, lit≤, lit<}
 use Rattle.std.specs.Prelude.{if◌then◌else◌}
 use Rattle.std.specs.Fmt.{digits}
 use Rattle.std.specs.List.{list_any}
 use Rattle.std.proofs.lemmas.Bool.{eqb-true, or_cases}
 use Rattle.std.proofs.lemmas.Fmt.{length-decimal-le}
-use Rattle.message_core.specs.Reply.{IsReply, allow_line, body_of, bytes_of, fields}
-use Rattle.message_core.specs.Reply.{last_line, reply_codes, status_line, type_line}
+use Rattle.message_core.specs.Reply.{IsReply, body_of, bytes_of, content_length_line}
+use Rattle.message_core.specs.Reply.{content_type_line, head_of, last_line, methods_line}
+use Rattle.message_core.specs.Reply.{reply_codes, status_line, text_kind}
 use Rattle.message_core.specs.declared.reply.Allow.{Allow}
 use Rattle.message_core.specs.declared.reply.Allow.TheVariants.{Get, GetPost, Post}
 use Rattle.message_core.specs.declared.reply.Reply.{Reply}
@@ -36,8 +37,31 @@ each_short = (
   (lit≤ tt, (lit≤ tt, (lit≤ tt, (lit≤ tt, (lit≤ tt, (lit≤ tt, (lit≤ tt, tt))))))),
 )
 
+-- the lines after the first, in order
+unfoldable pub type_line : List ℕ
+type_line = codes "\r\nContent-Type: text/plain; charset=utf-8\r\nContent-Length: "
+
+unfoldable pub allow_line : Option Allow → List ℕ
+allow_line allow = codes "\r\n" ++ methods_line allow
+
+-- all after the status line
+unfoldable pub fields : Option Allow → ℕ → List ℕ
+fields allow n = type_line ++ (decimal n ++ (allow_line allow ++ last_line))
+
+pub head_is : (status : ℕ) (allow : Option Allow) (n : ℕ)
+    → head_of status allow n ≡ status_line status ++ fields allow n
+unfolding head_of text_kind content_type_line content_length_line type_line allow_line fields
+head_is status allow n =
+    let kind = content_type_line text_kind in
+    let told = content_length_line n in
+    let rest = methods_line allow ++ last_line in
+    append_assoc (status_line status) (kind ++ told) rest
+    ∙ ap (λ (l : List ℕ). status_line status ++ l)
+    (append_assoc kind told rest
+    ∙ ap (λ (l : List ℕ). type_line ++ l) (append_assoc (decimal n) (codes "\r\n") rest))
+
 allow_line_short : (allow : Option Allow) → length (allow_line allow) ≤ 20
-unfolding allow_line
+unfolding allow_line methods_line
 allow_line_short None = lit≤ tt
 allow_line_short (Some Get) = lit≤ tt
 allow_line_short (Some Post) = lit≤ tt
@@ -84,6 +108,7 @@ short_reply reply is small =
       line,
       fields_short reply.allow (length reply.body) small,
       body_within reply,
-      length-append (status_line reply.status) (head ++ body_of reply),
-      length-append head (body_of reply),
+      ap length (head_is reply.status reply.allow (length reply.body)),
+      length-append (status_line reply.status) head,
+      length-append (head_of reply.status reply.allow (length reply.body)) (body_of reply),
     )

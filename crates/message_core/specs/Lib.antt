@@ -5,5 +5,6 @@ pub mod Heading
 pub mod Limits
 pub mod Message
 pub mod Reply
+pub mod ReplyHead
 pub mod Request
 pub mod Stated

@@ -1,8 +1,10 @@
 -- The bytes of a reply.
 use Rattle.std.specs.Prelude.{◌≡◌, ◌==◌, ℕ, Bool, true, if◌then◌else◌, List, [], ◌∷◌}
-use Rattle.std.specs.Prelude.{◌++◌, length, Option, Some, None, is_some, codes, decimal, unwrap_or}
+use Rattle.std.specs.Prelude.{◌++◌, length, Option, Some, None, is_some, codes}
 use Rattle.std.specs.List.{list_any}
-use Rattle.http.specs.StatusCode.{reason_phrase}
+unfoldable pub use Rattle.message_core.specs.ReplyHead.{content_length_line, content_type_line}
+unfoldable pub use Rattle.message_core.specs.ReplyHead.{last_line, status_line}
+use Rattle.message_core.specs.ReplyHead.{head_with}
 use Rattle.message_core.specs.declared.reply.Allow.{Allow}
 use Rattle.message_core.specs.declared.reply.Allow.TheVariants.{Get, GetPost, Post}
 use Rattle.message_core.specs.declared.reply.Reply.{Reply}
@@ -22,26 +24,21 @@ pub record IsReply (reply : Reply) : Type 0 where
 
 -- ---- the bytes
 
-unfoldable pub status_line : ℕ → List ℕ
-status_line status =
-    codes "HTTP/1.1 " ++ (decimal status ++ (codes " " ++ unwrap_or (reason_phrase status) []))
+-- the line of the methods, if there is one
+unfoldable pub methods_line : Option Allow → List ℕ
+methods_line None = []
+methods_line (Some Get) = codes "Allow: GET\r\n"
+methods_line (Some Post) = codes "Allow: POST\r\n"
+methods_line (Some GetPost) = codes "Allow: GET, POST\r\n"
 
-unfoldable pub type_line : List ℕ
-type_line = codes "\r\nContent-Type: text/plain; charset=utf-8\r\nContent-Length: "
+-- the type of a text
+unfoldable pub text_kind : List ℕ
+text_kind = codes "text/plain; charset=utf-8"
 
--- the end of the line before, and the line of the methods if there is one
-unfoldable pub allow_line : Option Allow → List ℕ
-allow_line None = codes "\r\n"
-allow_line (Some Get) = codes "\r\nAllow: GET\r\n"
-allow_line (Some Post) = codes "\r\nAllow: POST\r\n"
-allow_line (Some GetPost) = codes "\r\nAllow: GET, POST\r\n"
-
-unfoldable pub last_line : List ℕ
-last_line = codes "Connection: close\r\n\r\n"
-
--- the end of the status line, the lines after it, and the empty one, for a body of that length
-unfoldable pub fields : Option Allow → ℕ → List ℕ
-fields allow length_told = type_line ++ (decimal length_told ++ (allow_line allow ++ last_line))
+-- the head for a text of that length
+unfoldable pub head_of : ℕ → Option Allow → ℕ → List ℕ
+head_of status allow length_told =
+    head_with status text_kind length_told (methods_line allow)
 
 -- what is written of the body: nothing in reply to a HEAD, though its length is told
 abbrev pub body_of : Reply → List ℕ
@@ -49,7 +46,7 @@ body_of reply = if reply.head_only then [] else reply.body
 
 abbrev pub bytes_of : Reply → List ℕ
 bytes_of reply =
-    status_line reply.status ++ (fields reply.allow (length reply.body) ++ body_of reply)
+    head_of reply.status reply.allow (length reply.body) ++ body_of reply
 
 -- ---- the reply for which no memory is needed
 

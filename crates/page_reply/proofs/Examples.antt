@@ -2,11 +2,11 @@
 -- place that it leads to, with the methods of a path and to a HEAD; and the style sheet's.
 use Rattle.std.specs.Prelude.{◌≡◌, refl, ℕ, true, false, List, [], ◌++◌, codes, Some, None}
 use Rattle.std.specs.Fmt.{digits}
-use Rattle.message_core.specs.Reply.{status_line}
+use Rattle.message_core.specs.ReplyHead.{content_length_line, content_type_line, last_line}
+use Rattle.message_core.specs.ReplyHead.{status_line}
 use Rattle.page_reply.specs.PageReply.{allow_line, bytes_of, cookie_line, forget_line, guard_lines}
-use Rattle.page_reply.specs.PageReply.{last_lines, leads_line, length_lines, location_line}
-use Rattle.page_reply.specs.PageReply.{session_line, sheet_bytes, sheet_lines}
-use Rattle.page_reply.specs.PageReply.{stay_line}
+use Rattle.page_reply.specs.PageReply.{keep_lines, leads_line, location_line, own_lines, page_kind}
+use Rattle.page_reply.specs.PageReply.{session_line, sheet_bytes, sheet_kind, stay_line, way_to}
 use Rattle.page_reply.specs.declared.reply.CookieChange.TheVariants.{Keep, Session, Stay, Forget}
 use Rattle.page_reply.specs.declared.reply.Methods.TheVariants.{Get, GetAndPost}
 use Rattle.page_reply.specs.declared.reply.PageReply.{PageReply}
@@ -47,11 +47,11 @@ no_methods : allow_line None ≡ []
 unfolding allow_line
 no_methods = refl
 
-get_alone : allow_line (Some Get) ≡ codes "Allow: GET\r\n"
+get_alone : allow_line (Some Get) ≡ codes "Allow: GET, HEAD\r\n"
 unfolding allow_line
 get_alone = refl
 
-get_and_post : allow_line (Some GetAndPost) ≡ codes "Allow: GET, POST\r\n"
+get_and_post : allow_line (Some GetAndPost) ≡ codes "Allow: GET, HEAD, POST\r\n"
 unfolding allow_line
 get_and_post = refl
 
@@ -80,7 +80,7 @@ bytes_of_a_page :
     bytes_of page
     ≡ codes "HTTP/1.1 200 OK\r\nContent-Type: text/html; charset=utf-8\r\nContent-Length: 12\r\n"
     ++ (guards ++ codes "<p>Hello</p>")
-unfolding status_line length_lines allow_line guard_lines last_lines digits
+unfolding status_line content_type_line content_length_line last_line page_kind own_lines allow_line guard_lines digits
 bytes_of_a_page = refl
 
 -- without the page, whose length is told
@@ -88,7 +88,7 @@ bytes_of_a_page_to_a_head :
     bytes_of (record page { head_only = true })
     ≡ codes "HTTP/1.1 200 OK\r\nContent-Type: text/html; charset=utf-8\r\nContent-Length: 12\r\n"
     ++ guards
-unfolding status_line length_lines allow_line guard_lines last_lines digits
+unfolding status_line content_type_line content_length_line last_line page_kind own_lines allow_line guard_lines digits
 bytes_of_a_page_to_a_head = refl
 
 bytes_of_a_signing_in :
@@ -102,7 +102,7 @@ bytes_of_a_signing_in :
     ≡ codes "HTTP/1.1 303 See Other\r\nContent-Type: text/html; charset=utf-8\r\n"
     ++ (codes "Content-Length: 0\r\nSet-Cookie: desk=abc; Path=/; HttpOnly; SameSite=Strict\r\n"
     ++ (codes "Location: /desk/\r\n" ++ guards))
-unfolding status_line length_lines session_line leads_line allow_line guard_lines last_lines digits
+unfolding status_line content_type_line content_length_line last_line page_kind own_lines session_line leads_line allow_line guard_lines digits
 bytes_of_a_signing_in = refl
 
 bytes_of_the_sheet :
@@ -110,5 +110,12 @@ bytes_of_the_sheet :
     ≡ codes "HTTP/1.1 200 OK\r\nContent-Type: text/css; charset=utf-8\r\nContent-Length: 4\r\n"
     ++ (codes "Cache-Control: public, max-age=31536000, immutable\r\n"
     ++ codes "X-Content-Type-Options: nosniff\r\nConnection: close\r\n\r\np {}")
-unfolding sheet_lines last_lines digits
+unfolding status_line content_type_line content_length_line last_line sheet_kind keep_lines digits
 bytes_of_the_sheet = refl
+
+way_to_a_request :
+    way_to (codes "/desk/requests/7#reply")
+    ≡ codes "HTTP/1.1 303 See Other\r\nContent-Type: text/html; charset=utf-8\r\n"
+    ++ (codes "Content-Length: 0\r\nLocation: /desk/requests/7#reply\r\n" ++ guards)
+unfolding status_line content_type_line content_length_line last_line page_kind own_lines leads_line allow_line guard_lines digits
+way_to_a_request = refl

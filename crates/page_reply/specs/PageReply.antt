@@ -1,17 +1,16 @@
 -- The bytes of a reply with a page, and of the style sheet.
-use Rattle.std.specs.Prelude.{ℕ, if◌then◌else◌, List, [], ◌++◌, length, codes, decimal}
+use Rattle.std.specs.Prelude.{ℕ, if◌then◌else◌, List, [], ◌++◌, length, codes}
 use Rattle.std.specs.Prelude.{Option, Some, None}
-use Rattle.message_core.specs.Reply.{status_line}
+use Rattle.message_core.specs.ReplyHead.{head_with}
 use Rattle.page_reply.specs.declared.reply.CookieChange.{CookieChange}
 use Rattle.page_reply.specs.declared.reply.CookieChange.TheVariants.{Keep, Session, Stay, Forget}
 use Rattle.page_reply.specs.declared.reply.Methods.{Methods}
 use Rattle.page_reply.specs.declared.reply.Methods.TheVariants.{Get, GetAndPost}
 use Rattle.page_reply.specs.declared.reply.PageReply.{PageReply as Given}
 
-unfoldable pub length_lines : ℕ → List ℕ
-length_lines length_told =
-    codes "\r\nContent-Type: text/html; charset=utf-8\r\nContent-Length: "
-    ++ (decimal length_told ++ codes "\r\n")
+-- the type of a page
+unfoldable pub page_kind : List ℕ
+page_kind = codes "text/html; charset=utf-8"
 
 -- a cookie goes with no message that another site makes, and no script reads it
 unfoldable pub session_line : List ℕ → List ℕ
@@ -44,8 +43,8 @@ location_line (Some path) = leads_line path
 
 unfoldable pub allow_line : Option Methods → List ℕ
 allow_line None = []
-allow_line (Some Get) = codes "Allow: GET\r\n"
-allow_line (Some GetAndPost) = codes "Allow: GET, POST\r\n"
+allow_line (Some Get) = codes "Allow: GET, HEAD\r\n"
+allow_line (Some GetAndPost) = codes "Allow: GET, HEAD, POST\r\n"
 
 -- no page is kept; nothing but styles of the desk's own is loaded, forms go to the desk alone, no
 -- page frames it; and the desk alone is told where a form stood
@@ -53,10 +52,16 @@ unfoldable pub guard_lines : List ℕ
 guard_lines =
     codes "Cache-Control: no-store\r\nContent-Security-Policy: default-src 'none'; style-src 'self'; "
     ++ (codes "form-action 'self'; frame-ancestors 'none'; base-uri 'none'\r\n"
-    ++ codes "Referrer-Policy: same-origin\r\n")
+    ++ codes "Referrer-Policy: same-origin\r\nX-Content-Type-Options: nosniff\r\n")
 
-unfoldable pub last_lines : List ℕ
-last_lines = codes "X-Content-Type-Options: nosniff\r\nConnection: close\r\n\r\n"
+-- the lines of one reply: what it does to the cookie, where it leads, and the methods
+unfoldable pub own_lines : CookieChange → Option (List ℕ) → Option Methods → List ℕ
+own_lines cookie location allow =
+    cookie_line cookie ++ (location_line location ++ allow_line allow)
+
+abbrev pub page_head : ℕ → ℕ → List ℕ → List ℕ
+page_head status length_told lines =
+    head_with status page_kind length_told (lines ++ guard_lines)
 
 -- nothing in reply to a HEAD, though its length is told
 abbrev pub body_of : Given → List ℕ
@@ -64,17 +69,23 @@ body_of reply = if reply.head_only then [] else reply.page
 
 abbrev pub bytes_of : Given → List ℕ
 bytes_of reply =
-    status_line reply.status
-    ++ (length_lines (length reply.page)
-    ++ (cookie_line reply.cookie
-    ++ (location_line reply.location
-    ++ (allow_line reply.allow
-    ++ (guard_lines ++ (last_lines ++ body_of reply))))))
+    page_head reply.status (length reply.page)
+    (own_lines reply.cookie reply.location reply.allow) ++ body_of reply
 
-unfoldable pub sheet_lines : ℕ → List ℕ
-sheet_lines length_told =
-    codes "HTTP/1.1 200 OK\r\nContent-Type: text/css; charset=utf-8\r\nContent-Length: "
-    ++ (decimal length_told ++ codes "\r\nCache-Control: public, max-age=31536000, immutable\r\n")
+-- the reply that leads to a place, and does nothing to the cookie
+abbrev pub way_to : List ℕ → List ℕ
+way_to place = page_head 303 0 (own_lines Keep (Some place) None)
+
+-- ---- the style sheet
+
+unfoldable pub sheet_kind : List ℕ
+sheet_kind = codes "text/css; charset=utf-8"
+
+-- a browser may keep it for a year
+unfoldable pub keep_lines : List ℕ
+keep_lines =
+    codes "Cache-Control: public, max-age=31536000, immutable\r\n"
+    ++ codes "X-Content-Type-Options: nosniff\r\n"
 
 abbrev pub sheet_bytes : List ℕ → List ℕ
-sheet_bytes sheet = sheet_lines (length sheet) ++ (last_lines ++ sheet)
+sheet_bytes sheet = head_with 200 sheet_kind (length sheet) keep_lines ++ sheet

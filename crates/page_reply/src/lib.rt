@@ -6,6 +6,8 @@
 
 mod reply;
 mod sheet;
+mod way;
 
 pub use reply::{CookieChange, Methods, PageReply, page_reply};
 pub use sheet::sheet_reply;
+pub use way::put_way;

@@ -1,10 +1,11 @@
 //! The bytes of a reply with a page, or of one that leads to another place.
-ghost use Rattle.std.specs.Prelude.{◌≡◌, ◌++◌, decimal, length, IfOk, OnOk};
+ghost use Rattle.std.specs.Prelude.{◌≡◌, ◌++◌, ◌+◌, ◌≤◌, ◌<◌, length, IfOk, OnErr, OnOk};
+ghost use Rattle.std.specs.Vec.{vec_capacity, vec_len};
 ghost use Rattle.http.specs.StatusCode.{IsStatusCode};
+ghost use Rattle.message_core.specs.ReplyHead.{head_start, last_line};
 ghost use Rattle.page_reply.specs.PageReply as form;
 
-use itoa::Buffer;
-use message_core::add_status_line;
+use message_core::{add_text, end_head, start_head};
 use std::alloc::{AllocError, Global};
 use text_core::{Sequence, Text};
 
@@ -20,7 +21,7 @@ pub enum CookieChange {
     Forget,
 }
 
-/// Which methods a place takes.
+/// Which methods a place takes; HEAD goes with GET.
 #[derive(Clone, Copy)]
 pub enum Methods {
     Get,
@@ -47,15 +48,53 @@ pub fn page_reply(alloc: Global, reply: &PageReply) -> Result<Vec<u8>, AllocErro
     ensures { IfOk result (λ out. out.items ≡ form.bytes_of reply.now) }
 {
     let mut out = Vec::new(alloc);
-    add_status_line(&mut out, reply.status)?;
-    add_length_lines(&mut out, reply.page.len() as u64)?;
-    add_cookie_line(&mut out, &reply.cookie)?;
-    add_location_line(&mut out, &reply.location)?;
-    out.extend_from_slice(allow_line(reply.allow).as_bytes())?;
-    out.extend_from_slice(guard_lines().as_bytes())?;
-    out.extend_from_slice(last_lines().as_bytes())?;
+    start_page_head(&mut out, reply.status, reply.page.len() as u64)?;
+    add_own_lines(&mut out, reply)?;
+    end_page_head(&mut out)?;
     out.extend_from_slice(body_of(reply))?;
     Ok(out)
+}
+
+/// Puts what the head of a page begins with at the end.
+pub(crate) fn start_page_head(out: &mut Vec<u8>, status: u16, bytes: u64) -> Result<(), AllocError>
+    requires { IsStatusCode status }
+    ensures added { OnOk result (out.new.items
+        ≡ out.old.items ++ head_start status form.page_kind bytes) }
+    ensures full { OnErr result (vec_capacity out.old
+        < vec_len out.old + length (head_start status form.page_kind bytes)) }
+    ensures capacity { vec_capacity out.old ≤ vec_capacity out.new }
+{
+    start_head(out, status, page_kind(), bytes)
+}
+
+/// Puts what the head of a page ends with at the end.
+pub(crate) fn end_page_head(out: &mut Vec<u8>) -> Result<(), AllocError>
+    ensures added { OnOk result (out.new.items
+        ≡ out.old.items ++ (form.guard_lines ++ last_line)) }
+    ensures full { OnErr result (vec_capacity out.old
+        < vec_len out.old + length (form.guard_lines ++ last_line)) }
+    ensures capacity { vec_capacity out.old ≤ vec_capacity out.new }
+{
+    add_text(out, guard_lines())?;
+    end_head(out)
+}
+
+/// Puts the lines of this reply at the end.
+#[tactic(auto, unfolding(crate::specs::PageReply::own_lines))]
+fn add_own_lines(out: &mut Vec<u8>, reply: &PageReply) -> Result<(), AllocError>
+    ensures { OnOk result (out.new.items ≡ out.old.items
+        ++ form.own_lines reply.now.cookie reply.now.location reply.now.allow) }
+{
+    add_cookie_line(out, &reply.cookie)?;
+    add_location_line(out, &reply.location)?;
+    add_text(out, allow_line(reply.allow))
+}
+
+#[tactic(auto, unfolding(crate::specs::PageReply::page_kind))]
+fn page_kind() -> &'static str
+    ensures { result.now ≡ form.page_kind }
+{
+    "text/html; charset=utf-8"
 }
 
 /// What is written of the page.
@@ -67,19 +106,6 @@ fn body_of(reply: &PageReply) -> &[u8]
     } else {
         reply.page.as_slice()
     }
-}
-
-#[tactic(auto, unfolding(crate::specs::PageReply::length_lines))]
-fn add_length_lines(out: &mut Vec<u8>, bytes: u64) -> Result<(), AllocError>
-    ensures { OnOk result (out.new.items ≡ out.old.items ++ form.length_lines bytes) }
-{
-    let mut buffer = Buffer::new();
-    add_three(
-        out,
-        "\r\nContent-Type: text/html; charset=utf-8\r\nContent-Length: ",
-        buffer.format(bytes),
-        "\r\n",
-    )
 }
 
 fn add_cookie_line(out: &mut Vec<u8>, cookie: &CookieChange) -> Result<(), AllocError>
@@ -121,9 +147,10 @@ fn add_stay_line(out: &mut Vec<u8>, token: &str) -> Result<(), AllocError>
 fn add_forget_line(out: &mut Vec<u8>) -> Result<(), AllocError>
     ensures { OnOk result (out.new.items ≡ out.old.items ++ form.forget_line) }
 {
-    out.extend_from_slice(
-        b"Set-Cookie: desk=; Path=/; Max-Age=0; HttpOnly; SameSite=Strict\r\n\
-          Clear-Site-Data: \"cache\"\r\n",
+    add_text(
+        out,
+        "Set-Cookie: desk=; Path=/; Max-Age=0; HttpOnly; SameSite=Strict\r\n\
+         Clear-Site-Data: \"cache\"\r\n",
     )
 }
 
@@ -144,13 +171,13 @@ fn add_leads_line(out: &mut Vec<u8>, path: &str) -> Result<(), AllocError>
 }
 
 #[tactic(auto, unfolding(crate::specs::PageReply::allow_line))]
-fn allow_line(allow: Option<Methods>) -> &'static str
+pub(crate) fn allow_line(allow: Option<Methods>) -> &'static str
     ensures { result.now ≡ form.allow_line allow }
 {
     match allow {
         None => "",
-        Some(Methods::Get) => "Allow: GET\r\n",
-        Some(Methods::GetAndPost) => "Allow: GET, POST\r\n",
+        Some(Methods::Get) => "Allow: GET, HEAD\r\n",
+        Some(Methods::GetAndPost) => "Allow: GET, HEAD, POST\r\n",
     }
 }
 
@@ -160,14 +187,7 @@ fn guard_lines() -> &'static str
 {
     "Cache-Control: no-store\r\nContent-Security-Policy: default-src 'none'; style-src 'self'; \
      form-action 'self'; frame-ancestors 'none'; base-uri 'none'\r\n\
-     Referrer-Policy: same-origin\r\n"
-}
-
-#[tactic(auto, unfolding(crate::specs::PageReply::last_lines))]
-pub(crate) fn last_lines() -> &'static str
-    ensures { result.now ≡ form.last_lines }
-{
-    "X-Content-Type-Options: nosniff\r\nConnection: close\r\n\r\n"
+     Referrer-Policy: same-origin\r\nX-Content-Type-Options: nosniff\r\n"
 }
 
 /// Puts three texts at the end.
@@ -177,11 +197,13 @@ pub(crate) fn add_three(
     second: &str,
     third: &str,
 ) -> Result<(), AllocError>
-    ensures { OnOk result (out.new.items
+    ensures added { OnOk result (out.new.items
         ≡ out.old.items ++ (first.now ++ (second.now ++ third.now))) }
+    ensures full { OnErr result (vec_capacity out.old
+        < vec_len out.old + length (first.now ++ (second.now ++ third.now))) }
+    ensures capacity { vec_capacity out.old ≤ vec_capacity out.new }
 {
-    out.extend_from_slice(first.as_bytes())?;
-    out.extend_from_slice(second.as_bytes())?;
-    out.extend_from_slice(third.as_bytes())?;
-    Ok(())
+    add_text(out, first)?;
+    add_text(out, second)?;
+    add_text(out, third)
 }

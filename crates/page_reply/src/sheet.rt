@@ -1,9 +1,8 @@
 //! The bytes of the reply with the style sheet.
-ghost use Rattle.std.specs.Prelude.{◌≡◌, ◌++◌, decimal, length, IfOk, OnOk};
+ghost use Rattle.std.specs.Prelude.{◌≡◌, ◌++◌, length, IfOk};
 ghost use Rattle.page_reply.specs.PageReply as form;
 
-use crate::reply::{add_three, last_lines};
-use itoa::Buffer;
+use message_core::{add_text, end_head, start_head};
 use std::alloc::{AllocError, Global};
 
 /// The bytes of the reply with a style sheet, which a browser may keep for a year: its address is
@@ -12,21 +11,24 @@ pub fn sheet_reply(alloc: Global, sheet: &[u8]) -> Result<Vec<u8>, AllocError>
     ensures { IfOk result (λ out. out.items ≡ form.sheet_bytes sheet.now) }
 {
     let mut out = Vec::new(alloc);
-    add_sheet_lines(&mut out, sheet.len() as u64)?;
-    out.extend_from_slice(last_lines().as_bytes())?;
+    start_head(&mut out, 200, sheet_kind(), sheet.len() as u64)?;
+    add_text(&mut out, keep_lines())?;
+    end_head(&mut out)?;
     out.extend_from_slice(sheet)?;
     Ok(out)
 }
 
-#[tactic(auto, unfolding(crate::specs::PageReply::sheet_lines))]
-fn add_sheet_lines(out: &mut Vec<u8>, bytes: u64) -> Result<(), AllocError>
-    ensures { OnOk result (out.new.items ≡ out.old.items ++ form.sheet_lines bytes) }
+#[tactic(auto, unfolding(crate::specs::PageReply::sheet_kind))]
+fn sheet_kind() -> &'static str
+    ensures { result.now ≡ form.sheet_kind }
 {
-    let mut buffer = Buffer::new();
-    add_three(
-        out,
-        "HTTP/1.1 200 OK\r\nContent-Type: text/css; charset=utf-8\r\nContent-Length: ",
-        buffer.format(bytes),
-        "\r\nCache-Control: public, max-age=31536000, immutable\r\n",
-    )
+    "text/css; charset=utf-8"
+}
+
+#[tactic(auto, unfolding(crate::specs::PageReply::keep_lines))]
+fn keep_lines() -> &'static str
+    ensures { result.now ≡ form.keep_lines }
+{
+    "Cache-Control: public, max-age=31536000, immutable\r\n\
+     X-Content-Type-Options: nosniff\r\n"
 }

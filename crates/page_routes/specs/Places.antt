@@ -154,9 +154,11 @@ place_at target =
 
 -- ---- methods
 
+-- HEAD asks for what GET does
 abbrev pub method_named : List ℕ → Option Method
 method_named name =
     if bytes_eq name (codes "GET") then Some Get
+    else if bytes_eq name (codes "HEAD") then Some Get
     else if bytes_eq name (codes "POST") then Some Post
     else None
 

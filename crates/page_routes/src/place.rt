@@ -331,11 +331,13 @@ pub(crate) fn place_of(alloc: Global, path: &[u8]) -> Result<Option<Place>, Allo
     }
 }
 
-/// The method of this name.
+/// The method of this name: HEAD asks for what GET does.
 pub(crate) fn method_named(name: &[u8]) -> Option<Method>
     ensures { result ≡ places.method_named name.now }
 {
     if name == b"GET".as_slice() {
+        Some(Method::Get)
+    } else if name == b"HEAD".as_slice() {
         Some(Method::Get)
     } else if name == b"POST".as_slice() {
         Some(Method::Post)

@@ -35,10 +35,11 @@ use Rattle.wire_core.specs.Steps.{ReadStepsOn, StaysOn}
 use Rattle.wire_core.proofs.Stepping.{leads_nowhere, leads_same, leads_wider, read_leads}
 use Rattle.page_wire.specs.Faults.{fault_reply}
 use Rattle.page_wire.specs.Steps.{AskedStepsOn, AsksAt, By, IsAnsweredOn, IsAnswerTo, IsReadOf}
+use Rattle.page_wire.specs.HeadOnly.{told_of}
 use Rattle.page_wire.specs.Health.{TellsHealth, asks_health}
 use Rattle.page_wire.specs.Steps.{PageSteps, SentSteps}
 use Rattle.page_wire.specs.Forms.{FormStepsOn}
-use Rattle.page_wire.specs.Steps.{LookStepsOn, RequestStepsOn, SentStepsOn, VisitStepsOn}
+use Rattle.page_wire.specs.Steps.{LookStepsOn, RequestStepsOn, SentStepsOn, ToldStepsOn, VisitStepsOn}
 
 -- ---- what was read
 
@@ -186,7 +187,7 @@ pub visited : {X E : Type 0} (s : Settings) (at : ℕ) (request : Request) (visi
     (r : Result X E) (bytes : List ℕ) (old new : State)
     → ((h : RequestHead) → StartsWith request.head h []
     → visit_of s request.message (values_in h) ≡ Ok visit)
-    → OnOk r (VisitStepsOn s at visit bytes old new)
+    → OnOk r (ToldStepsOn s at (is_head request.message) visit bytes old new)
     → OnOk r (AskedStepsOn s at request bytes old new)
 visited s at request visit (Ok x) bytes old new is steps =
     leads_wider s _ _ old new
@@ -194,6 +195,13 @@ visited s at request visit (Ok x) bytes old new is steps =
     subst (λ (asked : Result Visit PageFault). PageSteps s at (is_head request.message) asked desk bytes after)
     (sym (is head starts)) step) steps
 visited s at request visit (Err e) bytes old new is steps = tt
+
+-- its reply is told, or the head of it
+pub told_so : (s : Settings) (at : ℕ) (head_only : Bool) (visit : Visit) (whole bytes : List ℕ)
+    (old new : State) → VisitStepsOn s at visit whole old new → bytes ≡ told_of head_only whole
+    → ToldStepsOn s at head_only visit bytes old new
+told_so s at head_only visit whole bytes old new steps told =
+    leads_wider s _ _ old new (λ desk after step. (whole, step, told)) steps
 
 -- its fault was told
 pub faulted : {X E : Type 0} (s : Settings) (at : ℕ) (request : Request) (fault : PageFault)

@@ -1,25 +1,18 @@
 -- Where one is led once something was done: replies that need no memory beyond room had before.
-use Rattle.std.specs.Prelude.{ℕ, List, ◌++◌, codes}
+use Rattle.std.specs.Prelude.{ℕ, List}
+use Rattle.page_reply.specs.PageReply.{way_to}
 use Rattle.page_routes.specs.Paths.{path_of, reply_path}
 use Rattle.page_routes.specs.declared.page.Page.TheVariants.{Home}
 use Rattle.page_routes.specs.declared.visit.Sent.{Sent}
 use Rattle.page_routes.specs.declared.visit.Sent.TheVariants as sent
 
-unfoldable pub led_front : List ℕ
-led_front =
-    codes "HTTP/1.1 303 See Other\r\nContent-Type: text/html; charset=utf-8\r\nContent-Length: 0\r\nLocation: "
-
-unfoldable pub led_back : List ℕ
-led_back =
-    codes "\r\nCache-Control: no-store\r\nContent-Security-Policy: default-src 'none'; style-src 'self'; form-action 'self'; frame-ancestors 'none'; base-uri 'none'\r\nReferrer-Policy: same-origin\r\nX-Content-Type-Options: nosniff\r\nConnection: close\r\n\r\n"
-
 -- to the end of the history of a request
 abbrev pub led_to : ℕ → List ℕ
-led_to id = led_front ++ (reply_path id ++ led_back)
+led_to id = way_to (reply_path id)
 
 -- to the first page
 abbrev pub led_home : List ℕ
-led_home = led_front ++ (path_of Home ++ led_back)
+led_home = way_to (path_of Home)
 
 -- where the form leads
 abbrev pub led_by : Sent → List ℕ

@@ -1,5 +1,6 @@
 pub mod Faults
 pub mod Forms
+pub mod HeadOnly
 pub mod Health
 pub mod Led
 pub mod Next

@@ -53,6 +53,7 @@ use Rattle.wire_core.specs.Runs.{Sent}
 use Rattle.wire_core.specs.Steps.{LeavesOut, MessageSteps, StaysOn}
 use Rattle.page_wire.specs.Faults.{fault_reply}
 use Rattle.page_wire.specs.Forms.{FormSteps}
+use Rattle.page_wire.specs.HeadOnly.{told_of}
 use Rattle.page_wire.specs.Health.{TellsHealth, asks_health}
 use Rattle.page_wire.specs.Replies as replies
 use Rattle.page_wire.specs.Visits.{IsFixed}
@@ -161,9 +162,14 @@ abbrev pub VisitSteps : Settings → ℕ → Visit → Desk → List ℕ → Des
 VisitSteps settings at visit old bytes new =
     By (is_due_moment at) (AsksAt settings at visit old bytes new) (Stays visit old bytes new)
 
+-- its reply is told, or its head alone
+abbrev pub ToldSteps : Settings → ℕ → Bool → Visit → Desk → List ℕ → Desk → Type 0
+ToldSteps settings at head_only visit old bytes new =
+    (whole : List ℕ) × VisitSteps settings at visit old whole new × (bytes ≡ told_of head_only whole)
+
 -- a message at a place of the pages: its visit, or its first fault
 abbrev pub PageSteps : Settings → ℕ → Bool → Result Visit PageFault → Desk → List ℕ → Desk → Type 0
-PageSteps settings at head_only (Ok visit) = VisitSteps settings at visit
+PageSteps settings at head_only (Ok visit) = ToldSteps settings at head_only visit
 PageSteps settings at head_only (Err fault) = Tells (fault_reply head_only fault)
 
 -- what a message with this head asks of the pages is done
@@ -243,6 +249,10 @@ RequestStepsOn settings at request bytes =
 abbrev pub VisitStepsOn : Settings → ℕ → Visit → List ℕ → State → State → Type 0
 VisitStepsOn settings at visit bytes =
     LeadsOn settings (λ desk after. VisitSteps settings at visit desk bytes after)
+
+abbrev pub ToldStepsOn : Settings → ℕ → Bool → Visit → List ℕ → State → State → Type 0
+ToldStepsOn settings at head_only visit bytes =
+    LeadsOn settings (λ desk after. ToldSteps settings at head_only visit desk bytes after)
 
 abbrev pub SentStepsOn : Settings → ℕ → Result Request WireFault → List ℕ → State → State → Type 0
 SentStepsOn settings at read bytes =

@@ -10,6 +10,7 @@
 
 mod act;
 mod faults;
+mod head_only;
 mod health;
 mod led;
 mod look;

@@ -6,15 +6,16 @@ ghost use Rattle.service_core.specs.Leaves.{LeavesDesk};
 ghost use Rattle.service_core.specs.Seen.{settings_of, tables_of};
 ghost use Rattle.store_tables.specs.Calls.{Spares};
 ghost use Rattle.page_wire.specs.Faults as form;
-ghost use Rattle.page_wire.specs.Steps.{AskedStepsOn, IsReadOf, RequestStepsOn, SentStepsOn};
+ghost use Rattle.page_wire.specs.Steps.{AskedStepsOn, IsReadOf, RequestStepsOn, SentStepsOn, ToldStepsOn};
 ghost use Rattle.wire_core.specs.Steps.{StaysOn};
 
 use crate::faults::fault_reply;
+use crate::head_only::tell;
 use crate::health::{answer_health, asks_health};
 use crate::led::ROOM;
 use crate::visits::make_visit;
 use message_core::{BodyLimit, Request, WireFault, read_request_counted, unavailable_reply};
-use page_routes::{PageFault, is_page_place, visit_of};
+use page_routes::{PageFault, Visit, is_page_place, visit_of};
 use service_core::Desk;
 use std::alloc::{AllocError, Global};
 use store_core::Backend;
@@ -174,13 +175,36 @@ fn reply_to<S: Backend>(
 {
     match visit_of(alloc, desk.settings(), request) {
         Ok(visit) => {
-            let made = make_visit(alloc, &visit, at, desk, room);
+            let made = tell_visit(alloc, is_head(&request.message), &visit, at, desk, room);
             drop(visit);
             made
         }
         Err(PageFault::NoMemory) => Err(AllocError),
         Err(fault) => put_fault(alloc, is_head(&request.message), fault, room),
     }
+}
+
+/// Makes a visit and puts its reply into the room, or the head of it alone. Out of memory nothing is
+/// done, and nothing is put.
+fn tell_visit<S: Backend>(
+    alloc: Global,
+    head_only: bool,
+    visit: &Visit,
+    at: u32,
+    desk: &mut Desk<S>,
+    room: &mut Vec<u8>,
+) -> Result<(), AllocError>
+    requires empty { room.old.items ≡ [] }
+    requires room { 512 ≤ vec_capacity room.old }
+    ensures ok { OnOk result (ToldStepsOn (settings_of S.Store desk.old) at head_only visit.now
+        room.new.items (tables_of S.Store desk.old) (tables_of S.Store desk.new)) }
+    ensures err { OnErr result ((room.new ≡ room.old) × StaysOn (settings_of S.Store desk.old)
+        (tables_of S.Store desk.old) (tables_of S.Store desk.new)) }
+    ensures left { LeavesDesk S.Store desk.old desk.new }
+{
+    make_visit(alloc, visit, at, desk, room)?;
+    tell(head_only, room);
+    Ok(())
 }
 
 fn put_fault(

@@ -15,10 +15,10 @@ use std::collections::HashSet;
 use text_core::Text;
 
 /// Names of which one is found without a walk over all.
-pub(crate) type Names = HashSet<String>;
+pub type Names = HashSet<String>;
 
 /// The rights that entries of lifecycles give to moves.
-pub(crate) fn rights_of(alloc: Global, lifecycles: &[Named<Lifecycle>]) -> Result<Names, AllocError>
+pub fn rights_of(alloc: Global, lifecycles: &[Named<Lifecycle>]) -> Result<Names, AllocError>
     ensures { IfOk result (λ names. (right : List ℕ)
         → contains_text names right
         ≡ list_any (λ l. names_right l.value right) lifecycles.now) }
@@ -32,10 +32,7 @@ pub(crate) fn rights_of(alloc: Global, lifecycles: &[Named<Lifecycle>]) -> Resul
 }
 
 /// The statuses of lifecycles.
-pub(crate) fn statuses_of(
-    alloc: Global,
-    lifecycles: &[Named<Lifecycle>],
-) -> Result<Names, AllocError>
+pub fn statuses_of(alloc: Global, lifecycles: &[Named<Lifecycle>]) -> Result<Names, AllocError>
     ensures { IfOk result (λ names. (status : List ℕ)
         → contains_text names status ≡ spec.knows_status lifecycles.now status) }
 {

@@ -6,22 +6,24 @@
 //!
 //! `Settings::read` gives settings that the bytes state, part by part, or the fault with the least
 //! number over the whole text. `Settings::built_in` are those of no bytes. `people`, `lifecycle` and
-//! their like give the named part, and `SettingsFault::inner` the fault inside another.
+//! their like give the named part, and `SettingsFault::inner` the fault inside another. What a name,
+//! a token and a limit have to be stands in `known`, `names`, `tokens` and `limits`, for who tells
+//! which of them has a fault.
 #![tactic(auto)]
 
 pub mod calendars;
 mod fault;
-mod known;
+pub mod known;
 pub mod laws;
 mod levels;
 mod lifecycles;
-mod limits;
+pub mod limits;
 mod named;
-mod names;
+pub mod names;
 mod people;
 mod settings;
 pub mod stated;
-mod tokens;
+pub mod tokens;
 
 pub use fault::SettingsFault;
 pub use named::Named;

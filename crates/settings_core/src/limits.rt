@@ -30,7 +30,7 @@ pub fn count_at(table: &Table, key: &str, most: u32) -> u32
 }
 
 /// Whether the number at a key, if there is one, is from 1 to the most.
-fn is_count_at(table: &Table, key: &str, most: u32) -> bool
+pub fn is_count_at(table: &Table, key: &str, most: u32) -> bool
     ensures { result ≡ spec.is_count_at key.now most (table_view table.now) }
 {
     match integer_at(table, key) {

@@ -39,7 +39,8 @@ fn are_known(named: &Names, grants: &[Grant]) -> bool
     grants.iter().all(|g| is_known(named, g.right.as_str()))
 }
 
-fn is_known(named: &Names, right: &str) -> bool
+/// Whether the right is standard or one of these.
+pub fn is_known(named: &Names, right: &str) -> bool
     ensures { result ≡ (is_among standard_rights right.now || contains_text named.now right.now) }
 {
     right::is_standard(right) || named.contains(right)
@@ -54,7 +55,8 @@ pub fn knows_calendars(table: &Table, levels: &[Named<Level>]) -> bool
         .all(|l| knows_calendar(table, l.value.calendar.as_str()))
 }
 
-fn knows_calendar(table: &Table, name: &str) -> bool
+/// Whether the calendar is one of the text's, or the calendar `default`.
+pub fn knows_calendar(table: &Table, name: &str) -> bool
     ensures { result ≡ spec.knows_calendar (table_view table.now) name.now }
 {
     name == STANDARD || has_calendar(table, name)

@@ -20,7 +20,8 @@ pub fn are_tokens(tokens: &[Token]) -> bool
     tokens.iter().all(|t| is_token(t.token.as_str()))
 }
 
-fn is_token(text: &str) -> bool
+/// Whether the text is 16 to 64 letters, digits, `-` and `_`.
+pub fn is_token(text: &str) -> bool
     ensures { result ≡ spec.is_token text.now }
 {
     LEAST_BYTES <= text.len() && text.len() <= MOST_BYTES && has_token_bytes(text.as_bytes())

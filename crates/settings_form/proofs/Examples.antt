@@ -1,19 +1,25 @@
 -- Examples of the definitions: keys and what stands at them; whom a grant is for; days, intervals
 -- and moves as texts, at their limits; each fault of form, in tables inside too, and which comes
 -- first; the key by which a table has a fault, and how that table is reached.
-use Rattle.std.specs.Prelude.{◌≡◌, refl, true, false, pos, [], codes, Some, None}
+use Rattle.std.specs.Prelude.{◌≡◌, refl, true, false, pos, List, [], ◌∷◌, codes, Some, None}
+use Rattle.std.proofs.Common.{Bor}
 use Rattle.toml.specs.Data.{Data, string, integer, boolean, array, table, no_items, item}
 use Rattle.toml.specs.Data.{Members, no_members, member}
 use Rattle.rights_core.specs.declared.grant.Subject.TheVariants as subject
 use Rattle.rights_core.specs.declared.role.Role.TheVariants.{Owner, AdminCc}
-use Rattle.settings_form.specs.Form.{kind_of}
-use Rattle.settings_form.specs.Grantee.{subject_in}
+use Rattle.settings_form.specs.Form.{field_of, free, keys, keys_of, kind_of, listed, may, must}
+use Rattle.settings_form.specs.Form.{one_of}
+use Rattle.settings_form.specs.Grantee.{subject_in, subject_of}
 use Rattle.settings_form.specs.Keys.{key_of}
 use Rattle.settings_form.specs.Kinds.{has_clash, has_unknown_key, has_wrong_kind, lacks_key, two_of}
-use Rattle.settings_form.specs.Places.{at, fault_key, path_to}
+use Rattle.settings_form.specs.Places.{at, fault_key, path_to, seen_key}
 use Rattle.settings_form.specs.TextForms.{after_space, before_space, day_of, has_form, interval_of}
-use Rattle.settings_form.specs.Walk.{form_fault}
+use Rattle.settings_form.specs.Walk.{form_fault, has_fault}
 use Rattle.settings_form.specs.declared.fault.FormFault.TheVariants.{UnknownKey, Missing, WrongKind}
+use Rattle.settings_form.specs.declared.form.Keys.TheVariants.{Free, OneOf}
+use Rattle.settings_form.specs.declared.form.Row.{Row}
+use Rattle.settings_form.specs.declared.grantee.Grantee.TheVariants as grantee
+use Rattle.settings_form.specs.declared.walk.KeyAt.{KeyAt}
 use Rattle.settings_form.specs.declared.form.Item.TheVariants.{Integer, Pair, Table, Text}
 use Rattle.settings_form.specs.declared.form.Kind.TheVariants.{One, Many}
 use Rattle.settings_form.specs.declared.form.Place.TheVariants.{Top, Groups, Grant, Tokens}
@@ -528,3 +534,104 @@ no_key_of_a_table_in_place_of_a_number :
     (array (item (table (member (codes "colour") one no_members)) no_items)) no_members))
     ≡ None
 no_key_of_a_table_in_place_of_a_number = refl
+
+-- Form.antt: the keys of a table
+
+grants_have_three_keys :
+    keys Grant
+    ≡ listed
+    (must (codes "to") (One (Text To)) ∷ must (codes "rights") (Many (Text Any))
+    ∷ may (codes "queue") (One (Text Any)) ∷ [])
+grants_have_three_keys = refl
+
+limit_is_in_one_unit :
+    keys Limit
+    ≡ one_of (may (codes "real_minutes") (One Integer) ∷ may (codes "business_minutes") (One Integer) ∷ [])
+limit_is_in_one_unit = refl
+
+lifecycles_are_named : keys Lifecycles ≡ free Name (One (Table Lifecycle))
+lifecycles_are_named = refl
+
+moves_as_the_code_holds_them : keys_of (Free RightKey (One (Text Any))) ≡ keys RightNames
+moves_as_the_code_holds_them = refl
+
+rows_as_the_code_holds_them :
+    (rows : Bor (List Row)) (a b : Row) → rows.now ≡ a ∷ b ∷ []
+    → keys_of (OneOf rows) ≡ one_of (field_of a ∷ field_of b ∷ [])
+rows_as_the_code_holds_them rows a b are = rw are refl
+
+row_as_the_code_holds_it :
+    (row : Row) → row.key.now ≡ codes "to" → row.is_required ≡ true → row.kind ≡ One (Text To)
+    → field_of row ≡ must (codes "to") (One (Text To))
+row_as_the_code_holds_it row key required kind = rw (key, required, kind) refl
+
+-- Grantee.antt: as the code says it
+
+everyone_as_the_code_says_it : subject_of grantee.Everyone ≡ subject.Everyone
+everyone_as_the_code_says_it = refl
+
+role_as_the_code_says_it : subject_of (grantee.Role AdminCc) ≡ subject.Role AdminCc
+role_as_the_code_says_it = refl
+
+-- Walk.antt: one fault
+
+text_with_an_unknown_key : has_fault UnknownKey (member (codes "colour") one no_members) ≡ true
+text_with_an_unknown_key = refl
+
+unknown_key_is_no_other_fault :
+    has_fault Missing (member (codes "colour") one no_members) ≡ false
+unknown_key_is_no_other_fault = refl
+
+-- the second of two grants
+grant_inside_lacks_a_key :
+    has_fault Missing
+    (member (codes "grant") (array (item (table everyone) (item (table no_members) no_items)))
+    no_members)
+    ≡ true
+grant_inside_lacks_a_key = refl
+
+-- [calendar.x]
+-- offset = 1
+-- rule = "a"
+calendar_inside_clashes :
+    has_fault WrongKind
+    (member (codes "calendar")
+    (table
+    (member (codes "x")
+    (table (member (codes "offset") one (member (codes "rule") text no_members)))
+    no_members))
+    no_members)
+    ≡ true
+calendar_inside_clashes = refl
+
+-- a list where one table belongs isn't looked into, but is itself of the wrong kind
+list_in_place_of_a_table :
+    has_fault UnknownKey
+    (member (codes "tokens")
+    (array (item (table (member (codes "colour") one no_members)) no_items)) no_members)
+    ≡ false
+list_in_place_of_a_table = refl
+
+list_in_place_of_a_table_is_wrong :
+    has_fault WrongKind
+    (member (codes "tokens")
+    (array (item (table (member (codes "colour") one no_members)) no_items)) no_members)
+    ≡ true
+list_in_place_of_a_table_is_wrong = refl
+
+-- Places.antt: as the code holds it
+
+key_as_the_code_holds_it :
+    (found : KeyAt) → found.place ≡ Grant → found.path.around.now ≡ []
+    → found.path.key.now ≡ codes "grant" → found.path.number ≡ 2 → found.key.now ≡ codes "to"
+    → seen_key found ≡ at Grant (path_to [] (codes "grant") 2) (codes "to")
+key_as_the_code_holds_it found place around at_key number key =
+    rw (place, around, at_key, number, key) refl
+
+key_inside_as_the_code_holds_it :
+    (found : KeyAt) → found.place ≡ Limit → found.path.around.now ≡ codes "fast"
+    → found.path.key.now ≡ codes "response" → found.path.number ≡ 0
+    → found.key.now ≡ codes "minutes"
+    → seen_key found ≡ at Limit (path_to (codes "fast") (codes "response") 0) (codes "minutes")
+key_inside_as_the_code_holds_it found place around at_key number key =
+    rw (place, around, at_key, number, key) refl

@@ -9,7 +9,7 @@ use Rattle.hours_core.specs.declared.level.Limit.TheVariants.{RealMinutes, Busin
 use Rattle.lifecycle_core.specs.Standard.{move_to}
 use Rattle.rights_core.specs.Right.{super_user}
 use Rattle.rights_core.specs.declared.grant.Subject.TheVariants.{Everyone, Person}
-use Rattle.settings_parts.specs.CalendarParts.{hours_of, week_of, years_of}
+use Rattle.settings_parts.specs.CalendarParts.{hours_of, hours_stated, week_of, years_of}
 use Rattle.settings_parts.specs.LevelParts.{has_limits, is_from_one, level_of, limit_in, limit_of}
 use Rattle.settings_parts.specs.LevelParts.{number_up_to}
 use Rattle.settings_parts.specs.LifecycleParts.{lifecycle_of}
@@ -17,6 +17,7 @@ use Rattle.settings_parts.specs.PeopleParts.{people_in, tokens_of}
 use Rattle.settings_parts.specs.Values.{boolean_at, integer_at, items_at, members_of, pair_at}
 use Rattle.settings_parts.specs.Values.{pairs_at, table_at, text_at, texts_at, texts_of}
 use Rattle.settings_parts.specs.Whole.{IsRight, restored}
+use Rattle.settings_parts.specs.declared.calendar.CalendarParts.{CalendarParts}
 use Rattle.settings_form.specs.declared.form.Item.TheVariants.{Boolean, Integer, Pair}
 use Rattle.settings_form.specs.declared.form.Item.TheVariants.{Text}
 use Rattle.settings_form.specs.declared.form.Kind.TheVariants.{Many, One}
@@ -174,6 +175,36 @@ zone_of_a_rule :
     no_members))).zone
     ≡ Err BadYears
 zone_of_a_rule = refl
+
+-- the parts as the code holds them: a table's hours come out again
+
+abbrev no_hours : List (List (ℕ × ℕ))
+no_hours = [] ∷ [] ∷ [] ∷ [] ∷ [] ∷ [] ∷ [] ∷ []
+
+hours_of_parts_without_a_rule :
+    (parts : CalendarParts) → parts.rule ≡ None → parts.offset ≡ pos 60
+    → parts.changes.items ≡ (pos 29579100, pos 120) ∷ [] → parts.week ≡ no_hours
+    → parts.holidays.items ≡ 20522 ∷ [] → parts.years ≡ (pos 2026, pos 2027)
+    → hours_stated parts
+    ≡ record {
+      zone = Ok (record { first = pos 60; changes = (pos 29579100, pos 120) ∷ [] });
+      week = no_hours;
+      holidays = 20522 ∷ [];
+      years = (pos 2026, pos 2027);
+    }
+hours_of_parts_without_a_rule parts rule offset changes week holidays years =
+    rw (rule, offset, changes, week, holidays, years) refl
+
+-- the rule's fault, whatever offset stands beside it
+zone_of_parts_with_a_rule :
+    (parts : CalendarParts) → parts.rule ≡ Some (codes "CET-1")
+    → parts.years ≡ (pos 2027, pos 2026) → (hours_stated parts).zone ≡ Err BadYears
+zone_of_parts_with_a_rule parts rule years = rw (rule, years) refl
+
+zone_of_parts_with_a_bad_offset :
+    (parts : CalendarParts) → parts.rule ≡ None → parts.offset ≡ pos 1440
+    → (hours_stated parts).zone ≡ Err BadOffset
+zone_of_parts_with_a_bad_offset parts rule offset = rw (rule, offset) refl
 
 -- LifecycleParts.antt
 

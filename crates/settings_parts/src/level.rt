@@ -79,7 +79,8 @@ fn limit_at(table: &Table, key: &str) -> Option<Limit>
     }
 }
 
-fn has_limit_at(table: &Table, key: &str) -> bool
+/// Whether the limit at a key, if there is one, has one unit, and from 1 minute to a year of them.
+pub fn has_limit_at(table: &Table, key: &str) -> bool
     ensures { result ≡ spec.has_limit_at key.now (table_view table.now) }
 {
     match limit_table(table, key) {

@@ -177,6 +177,19 @@ loads_of_three :
     ≡ load None 1 0 ∷ load (Some (codes "bob")) 2 2 ∷ load (Some (codes "cid")) 1 0 ∷ []
 loads_of_three = refl
 
+printer_is_owned_by_bob : workload.is_owned_by (Some (codes "bob")) told_printer ≡ true
+printer_is_owned_by_bob = refl
+
+-- of names that begin alike the whole name counts
+printer_is_not_owned_by_another : workload.is_owned_by (Some (codes "bobby")) told_printer ≡ false
+printer_is_not_owned_by_another = refl
+
+printer_is_not_owned_by_nobody : workload.is_owned_by None told_printer ≡ false
+printer_is_not_owned_by_nobody = refl
+
+toner_is_owned_by_nobody : workload.is_owned_by None told_toner ≡ true
+toner_is_owned_by_nobody = refl
+
 abbrev no_links : Links
 no_links =
     record {

@@ -3,6 +3,7 @@
 use Rattle.std.specs.Prelude.{◌≡◌, refl, true, false, List, [], ◌∷◌, codes, Some, None}
 use Rattle.hours_core.specs.declared.stay.Stay.{Stay}
 use Rattle.rights_core.specs.People.{parts_of}
+use Rattle.rights_core.specs.Right.{comment_on_ticket, show_ticket, steal_ticket}
 use Rattle.desk_model.specs.Change.{noting, no_change, revising, with_row}
 use Rattle.desk_model.specs.Dated.{dated}
 use Rattle.desk_model.specs.Desk.{empty_desk, queue_at, request_at, with_queue, with_revised}
@@ -15,7 +16,7 @@ use Rattle.desk_model.specs.IsDesk.{persons_rise}
 use Rattle.desk_model.specs.Known.{is_known, knows_status}
 use Rattle.desk_model.specs.Links.{has_link, is_lower_link, link}
 use Rattle.desk_model.specs.Plan.{OneRequest, WholeDesk}
-use Rattle.desk_model.specs.Rights.{is_shown, may_show_comments, sees_queue}
+use Rattle.desk_model.specs.Rights.{holds_on, is_shown, may_show_comments, sees_queue}
 use Rattle.desk_model.specs.Scope.{seen_in, topic_named}
 use Rattle.desk_model.specs.Step.{facts_of}
 use Rattle.desk_model.specs.View.{view}
@@ -29,7 +30,7 @@ use Rattle.desk_model.specs.declared.rows.WatchRole.TheVariants.{Requestor}
 use Rattle.desk_model.specs.declared.scope.Scope.TheVariants as scope
 use Rattle.desk_model.specs.declared.scope.Topic.TheVariants as topic
 use Rattle.desk_model.proofs.Examples.Office.{stay, depends, by_hand, office, general}
-use Rattle.desk_model.proofs.Examples.Office.{sales, printer, toner, told_entry}
+use Rattle.desk_model.proofs.Examples.Office.{sales, order, printer, toner, told_entry}
 use Rattle.desk_model.proofs.Examples.Office.{first_of_printer, comment_on_printer, move_of_printer}
 use Rattle.desk_model.proofs.Examples.Office.{printer_request, order_request, toner_request, desk}
 
@@ -375,6 +376,29 @@ bob_may_show_comments = refl
 ann_may_not : may_show_comments office (codes "ann") seen_printer ≡ false
 unfolding by_hand
 ann_may_not = refl
+
+-- by a role on the request, by a grant on its queue, and by what is granted on all
+requestor_holds_what_requestors_do : holds_on office (codes "ann") show_ticket seen_printer ≡ true
+unfolding by_hand
+requestor_holds_what_requestors_do = refl
+
+requestor_holds_nothing_else : holds_on office (codes "ann") comment_on_ticket seen_printer ≡ false
+unfolding by_hand
+requestor_holds_nothing_else = refl
+
+bob_holds_what_is_granted_on_its_queue :
+    holds_on office (codes "bob") comment_on_ticket seen_printer ≡ true
+unfolding by_hand
+bob_holds_what_is_granted_on_its_queue = refl
+
+bob_does_not_hold_it_on_another :
+    holds_on office (codes "bob") comment_on_ticket (record seen_printer { row = order }) ≡ false
+unfolding by_hand
+bob_does_not_hold_it_on_another = refl
+
+dora_holds_all : holds_on office (codes "dora") steal_ticket seen_printer ≡ true
+unfolding by_hand
+dora_holds_all = refl
 
 request_that_is_not_there_is_shown_to_none : is_shown office (codes "dora") desk 4 ≡ false
 request_that_is_not_there_is_shown_to_none = refl

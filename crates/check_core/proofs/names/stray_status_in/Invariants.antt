@@ -1,4 +1,5 @@
 use Rattle.std.proofs.Common.{◌≡◌}
+use Rattle.std.specs.HashSet.{contains_text}
 use Rattle.toml.specs.View.{members_view}
 use Rattle.check_core.specs.Names.{stray_status_in}
 use Rattle.check_core.proofs.names.stray_status_in.Given as goal
@@ -7,5 +8,5 @@ abbrev pub invariant-loop-name : goal.invariant-loop-name
 invariant-loop-name l =
     (goal.iterator-loop-name).can_next l.name-iterator ×
     (goal.iterator-loop-name).is_finite l.name-iterator ×
-    (stray_status_in l.lifecycles (members_view l.name-iterator)
-    ≡ stray_status_in l.lifecycles (members_view l.levels.entries))
+    (stray_status_in (contains_text l.statuses) (members_view l.name-iterator)
+    ≡ stray_status_in (contains_text l.statuses) (members_view l.levels.entries))

@@ -6,5 +6,6 @@ use Rattle.check_core.proofs.people.stray_among.Given as goal
 
 abbrev pub invariant-loop-value : goal.invariant-loop-value
 invariant-loop-value l =
-    stray_among (table_view l.table) (texts_in (items_view (drop l.value-index l.members.items)))
-    ≡ stray_among (table_view l.table) (texts_in (items_view l.members.items))
+    stray_among l.persons (table_view l.table)
+    (texts_in (items_view (drop l.value-index l.members.items)))
+    ≡ stray_among l.persons (table_view l.table) (texts_in (items_view l.members.items))

@@ -7,5 +7,5 @@ abbrev pub invariant-loop-group : goal.invariant-loop-group
 invariant-loop-group l =
     (goal.iterator-loop-group).can_next l.group-iterator ×
     (goal.iterator-loop-group).is_finite l.group-iterator ×
-    (stray_member_in (table_view l.table) (members_view l.group-iterator)
-    ≡ stray_member_in (table_view l.table) (members_view l.groups.entries))
+    (stray_member_in l.persons (table_view l.table) (members_view l.group-iterator)
+    ≡ stray_member_in l.persons (table_view l.table) (members_view l.groups.entries))

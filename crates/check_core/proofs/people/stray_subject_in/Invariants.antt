@@ -6,6 +6,6 @@ use Rattle.check_core.proofs.people.stray_subject_in.Given as goal
 abbrev pub invariant-loop-grant : goal.invariant-loop-grant
 invariant-loop-grant l =
     (l.number ≡ l.grant-index) ×
-    (stray_subject_in (table_view l.table) (l.number + 1)
+    (stray_subject_in l.persons (table_view l.table) (l.number + 1)
     (items_view (drop l.grant-index l.grants.items))
-    ≡ stray_subject_in (table_view l.table) 1 (items_view l.grants.items))
+    ≡ stray_subject_in l.persons (table_view l.table) 1 (items_view l.grants.items))
