@@ -5,6 +5,8 @@ use crate::echo::echo_of;
 use crate::stream::FakeStream;
 use server_core::{Host, Mark, NetFault};
 use std::alloc::Global;
+use std::io;
+use std::io::{Read, Write};
 use std::str;
 
 /// 2026-03-06 17:30 UTC, the minute of each message.
@@ -247,6 +249,19 @@ impl<'r, R: Print> Host for FakeHost<'r, R> {
         Ok(taken)
     }
 
+    fn read(
+        &mut self,
+        _place: usize,
+        stream: &mut FakeStream,
+        buffer: &mut [u8],
+    ) -> io::Result<usize> {
+        stream.read(buffer)
+    }
+
+    fn write(&mut self, _place: usize, stream: &mut FakeStream, bytes: &[u8]) -> io::Result<usize> {
+        stream.write(bytes)
+    }
+
     fn shut(&mut self, stream: &FakeStream) {
         if !self.weather.is_echoed || stream.is_whole() {
             self.whole = self.whole.saturating_add(1);
@@ -258,6 +273,10 @@ impl<'r, R: Print> Host for FakeHost<'r, R> {
             let text = str::from_utf8(stream.taken()).unwrap_or("?");
             let _told = println!(self.rt; "client {name}: {text:?}");
         }
+    }
+
+    fn wait_moment(&mut self) -> u64 {
+        self.now
     }
 
     fn wait(&mut self, milliseconds: u64, marks: &mut [Mark]) -> Result<bool, NetFault> {

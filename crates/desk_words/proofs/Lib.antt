@@ -1,3 +1,4 @@
 mod Enough
+mod Examples
 mod Meets
 mod Reading

@@ -1,4 +1,5 @@
 mod CountLemmas
+mod Examples
 mod PageLemmas
 pub mod PlaceLemmas
 pub mod RisingLemmas

@@ -1,1 +1,1 @@
--- nothing yet
+mod Examples

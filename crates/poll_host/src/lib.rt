@@ -11,7 +11,7 @@ use mio::{Events, Interest, Poll, Token};
 use server_core::{Host, Mark, NetFault};
 use std::alloc::{AllocError, Global};
 use std::io;
-use std::io::{ErrorKind, Write};
+use std::io::{ErrorKind, Read, Write};
 use std::net::{Net, Shutdown, SocketAddr};
 use std::time::{Clock, Duration};
 
@@ -153,8 +153,25 @@ impl<R: Net + Clock + Print> Host for PollHost<'_, R> {
         accepted
     }
 
+    fn read(
+        &mut self,
+        _place: usize,
+        stream: &mut TcpStream,
+        buffer: &mut [u8],
+    ) -> io::Result<usize> {
+        stream.read(buffer)
+    }
+
+    fn write(&mut self, _place: usize, stream: &mut TcpStream, bytes: &[u8]) -> io::Result<usize> {
+        stream.write(bytes)
+    }
+
     fn shut(&mut self, stream: &TcpStream) {
         let _shut = stream.shutdown(Shutdown::Write);
+    }
+
+    fn wait_moment(&mut self) -> u64 {
+        self.micros() / 1000
     }
 
     fn wait(&mut self, milliseconds: u64, marks: &mut [Mark]) -> Result<bool, NetFault> {

@@ -1,2 +1,3 @@
+mod Examples
 pub mod Halves
 pub mod LoadLemmas

@@ -1,4 +1,5 @@
 mod CutLemmas
+mod Examples
 mod Objects
 mod RowLemmas
 mod TreeLemmas

@@ -104,7 +104,7 @@ kept_all : {D : Type 0} (States : List ℕ → Option ℕ → Type 0)
 kept_all States Steps shuts P Needs Gives keeps most [] olds news d e (one, other) needs each =
     (subst (λ (l : List Conn). Each P l) (sym one) each, tt)
 kept_all States Steps shuts P Needs Gives keeps most (t ∷ ts) olds news d e
-    (mids, mid, (begun, admits, turns, done, none, all), rest) needs each =
+    (mids, mid, (begun, admits, turns, done, none, all, pause, at, accepts, full, works), rest) needs each =
     let here = kept_admits States P Needs Gives keeps t.now t.places olds begun admits each in
     let turn =
     kept_turn States _ P Needs Gives keeps t.now t.answered begun mids d mid turns
@@ -234,7 +234,7 @@ length_serves : {D : Type 0} (States : List ℕ → Option ℕ → Type 0)
 length_serves States Steps shuts most [] olds news d e (one, other) =
     ap (λ (l : List Conn). length l) one
 length_serves States Steps shuts most (t ∷ ts) olds news d e
-    (mids, mid, (begun, admits, turns, done, none, all), rest) =
+    (mids, mid, (begun, admits, turns, done, none, all, pause, at, accepts, full, works), rest) =
     length_serves States Steps shuts (most - length (somes t.answered)) ts mids news mid e rest
     ∙ length_turn States _ t.now t.answered begun mids d mid turns
     ∙ length_admits t.now t.places olds begun admits

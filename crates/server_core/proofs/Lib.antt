@@ -1,3 +1,5 @@
+pub mod AcceptLemmas
+pub mod CallLemmas
 mod Examples
 pub mod HeldLemmas
 pub mod OnceLemmas

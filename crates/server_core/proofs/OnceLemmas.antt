@@ -76,7 +76,7 @@ once_all : {D : Type 0} (States : List ℕ → Option ℕ → Type 0)
     → (over_at place olds ≡ true → answers_at place ts ≡ 0) × (answers_at place ts ≤ 1)
 once_all States Steps shuts place most [] olds news d e serves keeps = (λ over. refl, omega arith)
 once_all States Steps shuts place most (t ∷ ts) olds news d e
-    (mids, mid, (begun, admits, turns, done, none, all), rest) (other, keeps) =
+    (mids, mid, (begun, admits, turns, done, none, all, pause, at, accepts, full, works), rest) (other, keeps) =
     let then = once_all States Steps shuts place (most - length (somes t.answered)) ts mids news mid e rest keeps in
     let same = other_admits t.now place t.places olds begun admits other in
     let turn =

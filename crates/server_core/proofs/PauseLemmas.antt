@@ -1,17 +1,21 @@
 -- For how long is waited.
-use Rattle.std.proofs.Common.{◌≡◌, ◌∙◌, ◌≤◌, ◌<◌, ◌+◌, ℕ, zero, suc, Bool, true, List, [], ◌∷◌, refl, ap}
-use Rattle.std.proofs.Common.{sym, subst, min, length, drop, get_or, arith}
+use Rattle.std.proofs.Common.{◌≡◌, ◌∙◌, ◌⊎◌, inl, inr, ◌≤◌, ◌<◌, ◌+◌, ℕ, zero, suc, Bool, true, false, List, [], ◌∷◌}
+use Rattle.std.proofs.Common.{Option, refl, ap}
+use Rattle.std.proofs.Common.{sym, subst, cond, min, length, drop, get_or, arith}
 use Rattle.std.proofs.lemmas.List.{drop_more, drop_all, get_or-map, length-map}
 use Rattle.connection_core.specs.Machine.{Conn, closed}
 use Rattle.connection_core.specs.Seen.{seen}
 use Rattle.connection_core.specs.declared.phase.Phase.{Phase}
 use Rattle.connection_core.specs.declared.phase.Phase.TheVariants.{Closed}
+use Rattle.server_core.specs.Calls.{Adds, Begins, Call, Waits}
 use Rattle.server_core.specs.Places.{HasFree, conns}
+use Rattle.server_core.specs.Rests.{IsPause, Rest, queue_then, rest_calls}
 use Rattle.server_core.specs.Wait.{begins, gives_in, idles, is_full, pause_at, pauses}
 use Rattle.server_core.specs.declared.admit.Queue.{Queue}
-use Rattle.server_core.specs.declared.admit.Queue.TheVariants.{Full}
+use Rattle.server_core.specs.declared.admit.Queue.TheVariants.{Full, More}
 use Rattle.server_core.specs.declared.host.Mark.{Mark}
 use Rattle.server_core.specs.declared.slot.Slot.{Slot}
+use Rattle.server_core.proofs.CallLemmas.{adds_both}
 
 pauses_none : (full : Bool) (now : ℕ) (cs : List Conn) (ms : List Mark)
     → pauses full now 0 cs ms ≡ 0
@@ -76,3 +80,65 @@ none_left {S} slots ms full now pause whole i all same =
     let over : length (conns slots) ≤ i = simp length-map all in
     sym (ap (λ (l : List Conn). pauses full now pause l (drop i ms)) (drop_all i (conns slots) over))
     ∙ same
+
+-- ---- a wait
+
+abbrev RestSo : Queue → List Mark → List Mark → Queue → List Conn → Option (List Call)
+    → Option (List Call) → Type 0
+RestSo queue marks left after cs calls called =
+    (rest : Rest) × (rest.known ≡ record { queue = queue; marks = marks }) × (rest.marks ≡ left)
+    × (queue_then rest ≡ after) × IsPause rest cs × Adds calls called (rest_calls rest)
+
+rests_by : (queue : Queue) (marks left : List Mark) (began pause : ℕ) (comes : Bool) (cs : List Conn)
+    (calls mid called : Option (List Call)) → Adds calls mid (Begins began ∷ [])
+    → Adds mid called (Waits pause marks left comes ∷ [])
+    → pause ≡ pauses (is_full queue) began (begins queue) cs marks
+    → RestSo queue marks left (cond comes More queue) cs calls called
+rests_by queue marks left began pause comes cs calls mid called first last is = (
+  record {
+    known = record { queue = queue; marks = marks };
+    began = began;
+    pause = pause;
+    marks = left;
+    comes = comes;
+  },
+  refl,
+  refl,
+  refl,
+  is,
+  adds_both calls mid called (Begins began ∷ []) (Waits pause marks left comes ∷ []) first last,
+)
+
+-- it told that a connection may wait
+pub rests_on : (queue : Queue) (marks left : List Mark) (began pause : ℕ) (comes : Bool) (cs : List Conn)
+    (calls mid called : Option (List Call)) → Adds calls mid (Begins began ∷ [])
+    → Adds mid called (Waits pause marks left comes ∷ [])
+    → pause ≡ pauses (is_full queue) began (begins queue) cs marks → comes ≡ true
+    → RestSo queue marks left More cs calls called
+rests_on queue marks left began pause comes cs calls mid called first last is tells =
+    subst (λ (b : Bool). RestSo queue marks left (cond b More queue) cs calls called) tells
+    (rests_by queue marks left began pause comes cs calls mid called first last is)
+
+pub rests_still : (queue : Queue) (marks left : List Mark) (began pause : ℕ) (comes : Bool)
+    (cs : List Conn) (calls mid called : Option (List Call)) → Adds calls mid (Begins began ∷ [])
+    → Adds mid called (Waits pause marks left comes ∷ [])
+    → pause ≡ pauses (is_full queue) began (begins queue) cs marks → comes ≡ false
+    → RestSo queue marks left queue cs calls called
+rests_still queue marks left began pause comes cs calls mid called first last is tells =
+    subst (λ (b : Bool). RestSo queue marks left (cond b More queue) cs calls called) tells
+    (rests_by queue marks left began pause comes cs calls mid called first last is)
+
+free_queue : (queue : Queue) (now : ℕ) (cs : List Conn) (ms : List Mark)
+    → (queue ≡ More) ⊎ (queue ≡ Full) → HasFree cs → length cs ≤ length ms
+    → pauses (is_full queue) now (begins queue) cs ms ≡ 0
+free_queue queue now cs ms (inl more) free many =
+    ap (λ (q : Queue). pauses (is_full q) now (begins q) cs ms) more ∙ pauses_none false now cs ms
+free_queue queue now cs ms (inr full) (place, low, free) many =
+    ap (λ (q : Queue). pauses (is_full q) now (begins q) cs ms) full
+    ∙ free_by now 60000 place cs ms many low free
+
+pub free_rest : (rest : Rest) (cs : List Conn) → IsPause rest cs
+    → (rest.known.queue ≡ More) ⊎ (rest.known.queue ≡ Full) → HasFree cs
+    → length cs ≤ length rest.known.marks → rest.pause ≡ 0
+free_rest rest cs is waits free many =
+    is ∙ free_queue rest.known.queue rest.began cs rest.known.marks waits free many

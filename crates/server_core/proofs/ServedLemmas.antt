@@ -2,20 +2,29 @@
 use Rattle.std.proofs.Common.{◌≡◌, ◌≢◌, ◌∙◌, inl, inr, ◌≤◌, ◌<◌, ◌+◌, ◌-◌, ◌^◌, ℕ, Bool, true, false}
 use Rattle.std.proofs.Common.{List, [], ◌∷◌, ◌++◌}
 use Rattle.std.proofs.Common.{Option, Some, None, refl, ap, sym, subst, length, length-append}
-use Rattle.std.proofs.Common.{set, replicate, arith, append-nil, append_assoc, map}
+use Rattle.std.proofs.Common.{replicate, arith, append-nil, append_assoc, map, nat_lt}
 use Rattle.std.proofs.KnownBytes.{Appends-nil, Appends-trans}
 use Rattle.std.specs.Io.KnownBytes.{Appends}
-use Rattle.std.proofs.lemmas.List.{map-set, length-map, length-replicate}
-use Rattle.connection_core.specs.Machine.{Conn, closed, opened}
+use Rattle.std.proofs.lemmas.List.{length-map, length-replicate}
+use Rattle.connection_core.specs.Machine.{Conn, closed}
 use Rattle.connection_core.specs.Seen.{seen}
 use Rattle.connection_core.specs.declared.phase.Phase.TheVariants.{Ready}
 use Rattle.server_core.specs.Places.{Each, TurnsOf, conns}
 use Rattle.server_core.specs.Ends.{IsDue}
 use Rattle.server_core.specs.Host.{AppendsLines, KeepsClock, Line, Told, TellsMinute, TellsMoment, wait_fails}
 use Rattle.server_core.specs.Turns.{Answered, IsDone, TakeTurns, TellsLines, at_minute, line_of, logged, somes}
-use Rattle.server_core.specs.Served.{Admits, DoesTurn, EndsAt, GoesOn, IsServed, Runs, Serves}
-use Rattle.server_core.specs.Served.{ServesFrom, Turn, answers, minutes, nows}
-use Rattle.server_core.specs.Wait.{IsToGiveWay}
+use Rattle.server_core.specs.Calls.{Adds, Begins, Call, from_place}
+use Rattle.server_core.specs.Rests.{Accept, AcceptsBy, IsPause, Known, Rest, accept_call, at_first}
+use Rattle.server_core.specs.Rests.{may_answer, places_of, queue_then, rest_calls}
+use Rattle.server_core.specs.Served.{AreLinked, DoesTurn, EndsAt, GoesOn, IsAdmitted, IsServed, Runs}
+use Rattle.server_core.specs.Served.{Serves, ServesFrom, Turn, answers, minutes, nows, turn_calls}
+use Rattle.server_core.specs.Served.{turns_calls}
+use Rattle.server_core.specs.Wait.{NoneGivesWay}
+use Rattle.server_core.specs.Works.{Works, marked_at, unmarked}
+use Rattle.server_core.specs.declared.admit.Queue.{Queue}
+use Rattle.server_core.specs.declared.admit.Queue.TheVariants.{Full, More}
+use Rattle.server_core.specs.declared.host.Mark.{Mark}
+use Rattle.server_core.proofs.CallLemmas.{adds_both, adds_nil}
 use Rattle.server_core.specs.declared.ending.Ending.{Ending}
 use Rattle.server_core.specs.declared.ending.Ending.TheVariants.{Counted, Network, Shut, Spent}
 use Rattle.server_core.specs.declared.slot.Slot.{Slot}
@@ -34,29 +43,6 @@ places_free slots places is =
     is ∙ ap (λ (n : ℕ). replicate n closed) (sym (places_count slots places is))
 
 -- ---- accepting
-
-pub admits_none : (now : ℕ) (olds : List Conn) → (places : List ℕ) × Admits now places olds olds
-admits_none now olds = ([], refl)
-
-admits_all : (now : ℕ) (ps qs : List ℕ) (a b c : List Conn) → Admits now ps a b → Admits now qs b c
-    → Admits now (ps ++ qs) a c
-admits_all now [] qs a b c same then = subst (λ (l : List Conn). Admits now qs l c) same then
-admits_all now (p ∷ ps) qs a b c (gives, rest) then =
-    (gives, admits_all now ps qs (set a p (opened now)) b c rest then)
-
-pub admits_both : (now : ℕ) (a b c : List Conn) → (ps : List ℕ) × Admits now ps a b
-    → (qs : List ℕ) × Admits now qs b c → (rs : List ℕ) × Admits now rs a c
-admits_both now a b c (ps, first) (qs, second) =
-    (ps ++ qs, admits_all now ps qs a b c first second)
-
-pub admits_at : {S : Type 0} (slots : List (Slot S)) (place now : ℕ) (slot : Slot S)
-    → IsToGiveWay now place (conns slots) → seen slot.connection ≡ opened now
-    → (ps : List ℕ) × Admits now ps (conns slots) (conns (set slots place slot))
-admits_at {S} slots place now slot gives fresh =
-    let view : Slot S → Conn = λ s. seen s.connection in (
-      place ∷ [],
-      (gives, map-set view slots place slot ∙ ap (λ (c : Conn). set (conns slots) place c) fresh),
-    )
 
 pub clock_both : (t u v : Told) → KeepsClock t u → KeepsClock u v → KeepsClock t v
 clock_both t u v (clock, lines) (after, then) =
@@ -139,30 +125,60 @@ lines_more ts t =
     ap (λ (l : List Answered). map line_of l) (answers_both ts t)
     ∙ lines_both (answers ts) (somes t.answered)
 
+calls_more : (ts : List Turn) (t : Turn)
+    → turns_calls (ts ++ t ∷ []) ≡ turns_calls ts ++ turn_calls t
+calls_more [] t = append-nil (turn_calls t)
+calls_more (s ∷ ts) t =
+    ap (λ (l : List Call). turn_calls s ++ l) (calls_more ts t)
+    ∙ sym (append_assoc (turn_calls s) (turns_calls ts) (turn_calls t))
+
+linked_more : (known mid left : Known) (ts : List Turn) (t : Turn) → AreLinked known ts mid
+    → t.rest.known ≡ mid → t.left ≡ left → AreLinked known (ts ++ t ∷ []) left
+linked_more known mid left [] t linked first last = (first ∙ linked, sym last)
+linked_more known mid left (s ∷ ts) t (here, linked) first last =
+    (here, linked_more s.left mid left ts t linked first last)
+
+abbrev pub known_by : Queue → List Mark → Known
+known_by queue marks = record { queue = queue; marks = marks }
+
 pub serves_begin : {D : Type 0} (States : List ℕ → Option ℕ → Type 0)
-    (Steps : D → Answered → D → Type 0) (shuts : D → Bool) (told : Told)
-    (places most : ℕ) (desk : D) (cs : List Conn) → cs ≡ replicate places closed
-    → ServesFrom States Steps shuts told told places most desk cs desk 0 0
-serves_begin States Steps shuts told places most desk cs is = (
+    (Steps : D → Answered → D → Type 0) (shuts : D → Bool) (told : Told) (calls : Option (List Call))
+    (places most : ℕ) (desk : D) (cs : List Conn) (marks : List Mark) → cs ≡ replicate places closed
+    → marks ≡ replicate places unmarked
+    → ServesFrom States Steps shuts told told calls calls places most desk cs desk
+    (record { queue = More; marks = marks }) 0 0
+serves_begin States Steps shuts told calls places most desk cs marks is unset = (
   [],
   (is, refl),
   refl,
   refl,
   (Appends-nil told.moments, Appends-nil told.minutes, lines_nil told.lines),
+  ap (λ (l : List Mark). known_by More l) unset,
+  adds_nil calls,
 )
 
--- connections were accepted, and each had its turn
+-- it waited, connections were accepted, and each had its turn
 pub serves_on : {D : Type 0} (States : List ℕ → Option ℕ → Type 0)
     (Steps : D → Answered → D → Type 0) (shuts : D → Bool) (told mid tells : Told)
-    (places most left : ℕ) (first desk next : D) (a c : List Conn) (count turns more : ℕ)
-    → ServesFrom States Steps shuts told mid places most first a desk count turns
-    → left ≡ most - count → GoesOn States Steps shuts mid tells left a desk c next more
-    → ServesFrom States Steps shuts told tells places most first c next (count + more) (turns + 1)
-serves_on States Steps shuts told mid tells places most left first desk next a c count turns more
-    (ts, serves, answered, many, (moments, minute, lines)) is (t, does, few, (moment, at, line)) =
-    let left_is : left ≡ most - length (answers ts) = is ∙ ap (λ (n : ℕ). most - n) (sym answered) in
+    (calls had waited called : Option (List Call))
+    (places most some : ℕ) (first desk next : D) (a c : List Conn) (known left : Known) (rest : Rest)
+    (count turns more : ℕ)
+    → ServesFrom States Steps shuts told mid calls had places most first a desk known count turns
+    → some ≡ most - count → rest.known ≡ known → Adds had waited (rest_calls rest)
+    → GoesOn States Steps shuts mid tells waited called some rest a desk c next left more
+    → ServesFrom States Steps shuts told tells calls called places most first c next left (count + more)
+    (turns + 1)
+serves_on States Steps shuts told mid tells calls had waited called places most some first desk next a c
+    known left rest count turns more
+    (ts, serves, answered, many, (moments, minute, lines), linked, adds) is knows waits
+    (t, rests, leaves, does, few, (moment, at, line), tell) =
+    let left_is : some ≡ most - length (answers ts) = is ∙ ap (λ (n : ℕ). most - n) (sym answered) in
     let all = answers_more ts t in
-    let length_more = length-append ts (t ∷ []) in (
+    let length_more = length-append ts (t ∷ []) in
+    let turn : Adds had called (turn_calls t) =
+    subst (λ (r : Rest). Adds had called
+    (rest_calls r ++ (map accept_call t.accepts ++ from_place 0 t.calls)))
+    (sym rests) (adds_both had waited called _ _ waits tell) in (
       ts ++ t ∷ [],
       serves_more States Steps shuts most ts t _ a c first desk next serves
           (subst (λ (n : ℕ). DoesTurn States Steps shuts n t a desk c next) left_is does),
@@ -176,17 +192,22 @@ serves_on States Steps shuts told mid tells places most left first desk next a c
         subst (λ (l : List Line). AppendsLines told.lines tells.lines l) (sym (lines_more ts t))
             (lines_trans told.lines mid.lines tells.lines _ _ lines line),
       ),
+      linked_more (at_first places) known left ts t linked
+          (ap (λ (r : Rest). r.known) rests ∙ knows) leaves,
+      subst (λ (l : List Call). Adds calls called l) (sym (calls_more ts t))
+          (adds_both calls had called _ _ adds turn),
     )
 
 -- the host told nothing more of its clock
 pub serves_same : {D : Type 0} (States : List ℕ → Option ℕ → Type 0)
     (Steps : D → Answered → D → Type 0) (shuts : D → Bool) (told mid tells : Told)
-    (places most : ℕ) (first next : D) (c : List Conn) (count turns : ℕ)
-    → ServesFrom States Steps shuts told mid places most first c next count turns
+    (calls called : Option (List Call)) (places most : ℕ) (first next : D) (c : List Conn) (left : Known)
+    (count turns : ℕ)
+    → ServesFrom States Steps shuts told mid calls called places most first c next left count turns
     → KeepsClock mid tells
-    → ServesFrom States Steps shuts told tells places most first c next count turns
-serves_same States Steps shuts told mid tells places most first next c count turns
-    (ts, serves, answered, many, (moments, minute, lines)) keeps = (
+    → ServesFrom States Steps shuts told tells calls called places most first c next left count turns
+serves_same States Steps shuts told mid tells calls called places most first next c left count turns
+    (ts, serves, answered, many, (moments, minute, lines), linked, adds) keeps = (
       ts,
       serves,
       answered,
@@ -197,6 +218,8 @@ serves_same States Steps shuts told mid tells places most first next c count tur
         subst (λ (m : Option (List Line)). AppendsLines told.lines m (map line_of (answers ts)))
             (sym keeps.1) lines,
       ),
+      linked,
+      adds,
     )
 
 -- ---- what the log tells
@@ -245,34 +268,65 @@ plain_turns States Steps now (n ∷ ms) [] (w ∷ news) d e never = absurd never
 plain_turns States Steps now (n ∷ ms) (o ∷ olds) [] d e never = absurd never
 
 pub turns_failed : {D : Type 0} (States : List ℕ → Option ℕ → Type 0)
-    (Steps : D → Answered → D → Type 0) (now : ℕ) (olds news : List Conn) (d e : D) (t u : Told)
-    (count : ℕ) → TurnsOf States (logged Steps) now olds (d, t) news (e, u) count
+    (Steps : D → Answered → D → Type 0) (calls called : Option (List Call)) (now : ℕ)
+    (marks left : List Mark) (olds news : List Conn) (d e : D) (t u : Told) (count : ℕ)
+    → TurnsOf States (logged Steps) calls called now marks olds (d, t) left news (e, u) count
     → u.failed ≡ t.failed
-turns_failed States Steps now olds news d e t u count (ms, answered, turns) =
+turns_failed States Steps calls called now marks left olds news d e t u count
+    (ms, answered, turns, ios, tell, works) =
     (plain_turns States Steps now ms olds news (d, t) (e, u) turns).1.2
+
+may_some : (shut : Bool) (most left : ℕ) → (shut ≡ true → left ≡ 0) → (shut ≡ false → left ≡ most)
+    → may_answer shut most ≡ nat_lt 0 left
+may_some true most left none all = ap (λ (n : ℕ). nat_lt 0 n) (sym (none refl))
+may_some false most left none all = ap (λ (n : ℕ). nat_lt 0 n) (sym (all refl))
 
 -- accepted connections, and a turn of each
 pub goes_on : {D : Type 0} (States : List ℕ → Option ℕ → Type 0)
     (Steps : D → Answered → D → Type 0) (shuts : D → Bool)
-    (told tick tock accepts tells : Told) (a b c : List Conn) (desk next : D)
+    (told tick tock takes tells : Told) (calls had mid called : Option (List Call)) (a b c : List Conn)
+    (before begun after : List Mark) (desk next : D) (rest : Rest) (was queue : Queue)
     (now minute most left count : ℕ) → TellsMoment told tick now → TellsMinute tick tock minute
-    → KeepsClock tock accepts
-    → ((places : List ℕ) × Admits now places a b)
-    → TurnsOf States (logged (at_minute minute Steps)) now b (desk, accepts) c (next, tells) count
+    → had ≡ calls → KeepsClock tock takes
+    → ((accepts : List Accept) × IsAdmitted had mid now accepts a b before begun
+    × AcceptsBy was (nat_lt 0 left) accepts queue × (queue ≡ Full → NoneGivesWay now b))
+    → TurnsOf States (logged (at_minute minute Steps)) mid called now begun b (desk, takes) after c
+    (next, tells) count
     → Each (IsDone now) c
     → count ≤ left → (shuts desk ≡ true → left ≡ 0) → (shuts desk ≡ false → left ≡ most)
     → (count < left → Each (λ c. c.phase ≢ Ready) c)
-    → GoesOn States Steps shuts told tells most a desk c next count
-goes_on States Steps shuts told tick tock accepts tells a b c desk next now minute most left count
-    moment at keeps (places, admits) (ms, answered, turns) done few none all unready =
+    → IsPause rest a → queue_then rest ≡ was → rest.marks ≡ before
+    → GoesOn States Steps shuts told tells calls called most rest a desk c next
+    (record { queue = queue; marks = after }) count
+goes_on States Steps shuts told tick tock takes tells calls had mid called a b c before begun after desk next
+    rest was queue now minute most left count
+    moment at none_told keeps (accepts, (admits, adds, marked), by, full) (ms, answered, turns, ios, tell, works) done few none
+    all unready pause then back =
     let plain =
-    plain_turns States (at_minute minute Steps) now ms b c (desk, accepts) (next, tells) turns in
+    plain_turns States (at_minute minute Steps) now ms b c (desk, takes) (next, tells) turns in
     let clock : (tells.moments ≡ tick.moments) × (tells.minutes ≡ tock.minutes) = (
       plain.1.1.0 ∙ keeps.0.0 ∙ at.1,
       plain.1.1.1 ∙ keeps.0.1,
     ) in
-    let before : accepts.lines ≡ told.lines = keeps.1 ∙ at.2 ∙ moment.2 in (
-      record { now = now; minute = minute; places = places; answered = ms },
+    let first : takes.lines ≡ told.lines = keeps.1 ∙ at.2 ∙ moment.2 in
+    let begins : begun ≡ marked_at (places_of accepts) rest.marks =
+    marked ∙ ap (λ (l : List Mark). marked_at (places_of accepts) l) (sym back) in
+    let queues : AcceptsBy (queue_then rest) (may_answer (shuts desk) most) accepts queue =
+    subst (λ (q : Queue). AcceptsBy q (may_answer (shuts desk) most) accepts queue) (sym then)
+    (subst (λ (m : Bool). AcceptsBy was m accepts queue) (sym (may_some (shuts desk) most left none all))
+    by) in (
+      record {
+        now = now;
+        minute = minute;
+        places = places_of accepts;
+        answered = ms;
+        rest = rest;
+        accepts = accepts;
+        calls = ios;
+        left = record { queue = queue; marks = after };
+      },
+      refl,
+      refl,
       (
         b,
         admits,
@@ -280,6 +334,11 @@ goes_on States Steps shuts told tick tock accepts tells a b c desk next now minu
         done,
         λ shut. let no = none shut in omega (arith, few, no, answered),
         λ live less. unready (let is = all live in omega (arith, is, less, answered)),
+        pause,
+        refl,
+        queues,
+        full,
+        subst (λ (l : List Mark). Works l b ms ios after) begins works,
       ),
       answered,
       (
@@ -287,9 +346,11 @@ goes_on States Steps shuts told tick tock accepts tells a b c desk next now minu
         subst (λ (m : Option (List ℕ)). Appends m tells.minutes (minute ∷ [])) moment.1
             (subst (λ (m : Option (List ℕ)). Appends tick.minutes m (minute ∷ [])) (sym clock.1)
             at.0),
-        subst (λ (m : Option (List Line)). AppendsLines m tells.lines (map line_of (somes ms))) before
+        subst (λ (m : Option (List Line)). AppendsLines m tells.lines (map line_of (somes ms))) first
             plain.1.0,
       ),
+      adds_both calls mid called _ _
+          (subst (λ (o : Option (List Call)). Adds o mid (map accept_call accepts)) none_told adds) tell,
     )
 
 -- why it ended, by what is known of the network
@@ -305,49 +366,60 @@ due_ends Spent most count turns shut faults tells news known few due = absurd du
 
 pub served_at : {D : Type 0} (States : List ℕ → Option ℕ → Type 0)
     (Steps : D → Answered → D → Type 0) (shuts : D → Bool) (faults : ℕ)
-    (told tells : Told) (places most : ℕ) (first next : D) (news : List Conn) (count turns : ℕ)
-    (ending : Ending) (shut : Bool)
-    → ServesFrom States Steps shuts told tells places most first news next count turns
+    (told tells : Told) (calls called : Option (List Call)) (places most : ℕ) (first next : D)
+    (news : List Conn) (left : Known) (count turns : ℕ) (ending : Ending) (shut : Bool)
+    → ServesFrom States Steps shuts told tells calls called places most first news next left count turns
     → shut ≡ shuts next → faults ≤ tells.failed → count ≤ most
     → IsDue ending count most shut faults news
-    → IsServed States Steps shuts told tells places most first ending next
-served_at States Steps shuts faults told tells places most first next news count turns ending shut
-    serves same known few due = (
+    → IsServed States Steps shuts told tells calls called places most first ending next
+served_at States Steps shuts faults told tells calls called places most first next news left count turns
+    ending shut serves same known few due = (
       news,
+      left,
       count,
       turns,
+      called,
       serves,
       subst (λ (b : Bool). EndsAt ending most count turns b tells news) same
           (due_ends ending most count turns shut faults tells news known few due),
+      inl (adds_nil called),
     )
 
 -- a wait has failed
 pub served_waits : {D : Type 0} (States : List ℕ → Option ℕ → Type 0)
     (Steps : D → Answered → D → Type 0) (shuts : D → Bool) (told mid tells : Told)
-    (places most : ℕ) (first next : D) (news : List Conn) (count turns : ℕ)
-    → ServesFrom States Steps shuts told mid places most first news next count turns
-    → tells ≡ wait_fails mid → count ≤ most
-    → IsServed States Steps shuts told tells places most first Network next
-served_waits States Steps shuts told mid tells places most first next news count turns serves is few = (
-  news,
-  count,
-  turns,
-  serves_same States Steps shuts told mid tells places most first next news count turns serves (
-    (ap (λ (t : Told). t.moments) is, ap (λ (t : Told). t.minutes) is),
-    ap (λ (t : Told). t.lines) is,
-  ),
-  (few, inl (ap (λ (t : Told). t.wait_failed) is)),
-)
+    (calls last called : Option (List Call)) (places most : ℕ) (first next : D) (news : List Conn)
+    (left : Known) (count turns : ℕ)
+    → ServesFrom States Steps shuts told mid calls last places most first news next left count turns
+    → tells ≡ wait_fails mid → ((began : ℕ) × Adds last called (Begins began ∷ [])) → count ≤ most
+    → IsServed States Steps shuts told tells calls called places most first Network next
+served_waits States Steps shuts told mid tells calls last called places most first next news left count
+    turns serves is begins few = (
+      news,
+      left,
+      count,
+      turns,
+      last,
+      serves_same States Steps shuts told mid tells calls last places most first next news left count turns
+          serves (
+            (ap (λ (t : Told). t.moments) is, ap (λ (t : Told). t.minutes) is),
+            ap (λ (t : Told). t.lines) is,
+          ),
+      (few, inl (ap (λ (t : Told). t.wait_failed) is)),
+      inr begins,
+    )
 
 -- it had as many turns as there can be
 pub served_spent : {D : Type 0} (States : List ℕ → Option ℕ → Type 0)
     (Steps : D → Answered → D → Type 0) (shuts : D → Bool) (told tells : Told)
-    (places most : ℕ) (first next : D) (news : List Conn) (count turns : ℕ)
-    → ServesFrom States Steps shuts told tells places most first news next count turns
+    (calls called : Option (List Call)) (places most : ℕ) (first next : D) (news : List Conn)
+    (left : Known) (count turns : ℕ)
+    → ServesFrom States Steps shuts told tells calls called places most first news next left count turns
     → turns ≡ 2 ^ 64 - 1 → count ≤ most
-    → IsServed States Steps shuts told tells places most first Spent next
-served_spent States Steps shuts told tells places most first next news count turns serves all few =
-    (news, count, turns, serves, (few, all))
+    → IsServed States Steps shuts told tells calls called places most first Spent next
+served_spent States Steps shuts told tells calls called places most first next news left count turns serves
+    all few =
+    (news, left, count, turns, called, serves, (few, all), inl (adds_nil called))
 
 -- ---- the desk alone
 
@@ -381,7 +453,7 @@ pub serves_runs : {D : Type 0} (States : List ℕ → Option ℕ → Type 0)
     → Runs Steps (answers ts) d e
 serves_runs States Steps shuts most [] olds news d e (one, other) = other
 serves_runs States Steps shuts most (t ∷ ts) olds news d e
-    (mids, mid, (begun, admits, turns, done, none, all), rest) =
+    (mids, mid, (begun, admits, turns, done, none, all, pause, at, accepts, full, works), rest) =
     runs_all Steps (somes t.answered) (answers ts) d mid e
     (turns_run States Steps t.now t.minute t.answered begun mids d mid turns)
     (serves_runs States Steps shuts (most - length (somes t.answered)) ts mids news mid e rest)

@@ -190,6 +190,18 @@ turn_told {D} {T} States Steps now a b desk next told tells same r is turn =
     subst (λ (t : T). (m : Option Answered) × (is_some m ≡ r)
     × TakesTurn States Steps now m a (desk, told) b (next, t)) (sym is) turn
 
+-- it told nothing before
+pub turn_begins : {D T : Type 0} (States : List ℕ → Option ℕ → Type 0)
+    (Steps : D × T → Answered → D × T → Type 0) (now : ℕ) (a b : Conn) (desk next : D)
+    (told same tells : T) (r : Bool) → same ≡ told
+    → (m : Option Answered) × (is_some m ≡ r)
+    × TakesTurn States Steps now m a (desk, same) b (next, tells)
+    → (m : Option Answered) × (is_some m ≡ r)
+    × TakesTurn States Steps now m a (desk, told) b (next, tells)
+turn_begins {D} {T} States Steps now a b desk next told same tells r is turn =
+    subst (λ (t : T). (m : Option Answered) × (is_some m ≡ r)
+    × TakesTurn States Steps now m a (desk, t) b (next, tells)) is turn
+
 abbrev mk : ℕ → List ℕ → ℕ → Line
 mk minute note bytes = record { minute = minute; note = note; bytes = bytes }
 

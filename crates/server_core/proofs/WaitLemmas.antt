@@ -1,5 +1,6 @@
 -- The connection that has waited longest.
-use Rattle.std.proofs.Common.{◌≡◌, ◌≢◌, ◌∙◌, inl, inr, ◌≤◌, ◌<◌, ◌+◌, ℕ, Bool, true, false, List, []}
+use Rattle.std.proofs.Common.{◌≡◌, ◌≢◌, ◌∙◌, inl, inr, ◌≤◌, ◌<◌, ◌+◌, ◌-◌, ◌^◌, ℕ, zero, suc, Bool, true}
+use Rattle.std.proofs.Common.{false, List, [], min}
 use Rattle.std.proofs.Common.{◌∷◌, ◌++◌, Option, Some, None, refl, ap, sym, subst, cond, length, take}
 use Rattle.std.proofs.Common.{get_or, arith, length-append, nat_le}
 use Rattle.std.proofs.lemmas.List.{take_more, take_all, get_or_append_left, get_or-map, length-map, length-take-le}
@@ -8,7 +9,8 @@ use Rattle.connection_core.specs.Machine.{Conn, closed}
 use Rattle.connection_core.specs.Seen.{seen}
 use Rattle.connection_core.specs.declared.phase.Phase.TheVariants.{Closed}
 use Rattle.server_core.specs.Places.{Each, conns}
-use Rattle.server_core.specs.Wait.{IsLongest, IsSoonest, IsToGiveWay, is_of, longer_in, sooner_of}
+use Rattle.server_core.specs.Wait.{IsLongest, IsSoonest, IsToGiveWay, NoneGivesWay, is_of, longer_in}
+use Rattle.server_core.specs.Wait.{sooner_of}
 use Rattle.server_core.specs.declared.admit.Kind.{Kind}
 use Rattle.server_core.specs.declared.admit.Kind.TheVariants.{Lingers, Reads}
 use Rattle.server_core.specs.declared.admit.Waiting.{Waiting}
@@ -196,3 +198,52 @@ longest_gives slots w now place moment (is, then) few none idle (low, this, same
             omega (arith, same, then, few),
           )),
     )
+
+-- ---- none gives way
+
+each_at : (P : Conn → Type 0) (cs : List Conn) (place : ℕ) → Each P cs → place < length cs
+    → P (get_or cs place closed)
+each_at P [] place each low = let no : place < 0 = low in absurd (omega (arith, no))
+each_at P (c ∷ cs) zero each low = each.0
+each_at P (c ∷ cs) (suc place) each low = each_at P cs place each.1 (omega (arith, low))
+
+none_reads_at : (cs : List Conn) (now : ℕ) → Each (λ c. c.phase ≢ Closed) cs
+    → IsLongest Lingers None cs → IsLongest Reads None cs → (place : ℕ) → IsToGiveWay now place cs → ⊥
+none_reads_at cs now none idle silent place (low, inl free) =
+    each_at (λ c. c.phase ≢ Closed) cs place none low free
+none_reads_at cs now none idle silent place (low, inr (inl (all, (is, first)))) =
+    never_reads (is_of Lingers (get_or cs place closed).phase)
+    (each_at (λ c. is_of Lingers c.phase ≡ false) cs place idle low) is
+none_reads_at cs now none idle silent place (low, inr (inr (all, still, (is, first), long))) =
+    never_reads (is_of Reads (get_or cs place closed).phase)
+    (each_at (λ c. is_of Reads c.phase ≡ false) cs place silent low) is
+
+-- none lingers, and none reads
+pub none_reads : {S : Type 0} (slots : List (Slot S)) (now : ℕ)
+    → Each (λ c. c.phase ≢ Closed) (conns slots) → IsLongest Lingers None (conns slots)
+    → IsLongest Reads None (conns slots) → NoneGivesWay now (conns slots)
+none_reads slots now none idle silent = none_reads_at (conns slots) now none idle silent
+
+none_waited_at : (cs : List Conn) (w : Waiting) (now moment : ℕ) → moment < w.deadline
+    → moment ≡ min (now + 29750) (2 ^ 64 - 1) → w.deadline ≤ 2 ^ 64 - 1
+    → Each (λ c. c.phase ≢ Closed) cs → IsLongest Lingers None cs → IsLongest Reads (Some w) cs
+    → (place : ℕ) → IsToGiveWay now place cs → ⊥
+none_waited_at cs w now moment before is fits none idle longest place (low, inl free) =
+    each_at (λ c. c.phase ≢ Closed) cs place none low free
+none_waited_at cs w now moment before is fits none idle longest place
+    (low, inr (inl (all, (lingers, first)))) =
+    never_reads (is_of Lingers (get_or cs place closed).phase)
+    (each_at (λ c. is_of Lingers c.phase ≡ false) cs place idle low) lingers
+none_waited_at cs w now moment before is fits none idle (w_low, w_is, w_at, each) place
+    (low, inr (inr (all, still, (reads, first), long))) =
+    let later =
+    each_at (λ c. is_of Reads c.phase ≡ true → w.deadline ≤ c.deadline) cs place each low reads in
+    omega (arith, before, is, fits, long, later)
+
+-- none lingers, and the one that has waited longest hasn't waited long enough
+pub none_waited : {S : Type 0} (slots : List (Slot S)) (w : Waiting) (now moment : ℕ)
+    → moment < w.deadline → moment ≡ min (now + 29750) (2 ^ 64 - 1) → w.deadline ≤ 2 ^ 64 - 1
+    → Each (λ c. c.phase ≢ Closed) (conns slots) → IsLongest Lingers None (conns slots)
+    → IsLongest Reads (Some w) (conns slots) → NoneGivesWay now (conns slots)
+none_waited slots w now moment before is fits none idle longest =
+    none_waited_at (conns slots) w now moment before is fits none idle longest

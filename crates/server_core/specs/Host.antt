@@ -68,11 +68,6 @@ TellsMinute old new minute =
 abbrev pub HasSameClock : Told → Told → Type 0
 HasSameClock old new = (new.moments ≡ old.moments) × (new.minutes ≡ old.minutes)
 
--- it was last asked for a pause of so many milliseconds, where it keeps that
-abbrev pub IsPaused : Option ℕ → ℕ → Type 0
-IsPaused None pause = ⊤
-IsPaused (Some asked) pause = asked ≡ pause
-
 -- it told one line more
 abbrev pub TellsLine : Told → Told → Line → Type 0
 TellsLine old new line =

@@ -1,10 +1,13 @@
 pub mod Answers
 pub mod AtPlace
+pub mod Calls
 pub mod Ends
 pub mod Held
 pub mod Host
 pub mod Places
 pub mod Reads
+pub mod Rests
 pub mod Served
 pub mod Turns
 pub mod Wait
+pub mod Works

@@ -61,6 +61,10 @@ IsToGiveWay now place cs =
     ⊎ HasLingeredLongest (get_or cs place closed) cs
     ⊎ HasWaitedLongest now (get_or cs place closed) cs)
 
+-- at this moment no place could be given to a client
+abbrev pub NoneGivesWay : ℕ → List Conn → Type 0
+NoneGivesWay now cs = (place : ℕ) → IsToGiveWay now place cs → ⊥
+
 -- ---- of some connections so far
 
 abbrev pub sooner_of : Option Waiting → Waiting → Option Waiting

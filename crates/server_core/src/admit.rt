@@ -5,13 +5,13 @@ ghost use Rattle.connection_core.specs.Machine.{closed};
 ghost use Rattle.connection_core.specs.Seen.{seen};
 ghost use Rattle.server_core.specs.Host.{KeepsClock};
 ghost use Rattle.server_core.specs.Places.{Each, conns};
-ghost use Rattle.server_core.specs.Served.{Admits};
+ghost use Rattle.server_core.specs.Rests.{Accept, AreAccepts, IsAccept};
+ghost use Rattle.server_core.specs.Served.{IsAdmitted};
 ghost use Rattle.server_core.specs.Wait as wait;
-ghost use Rattle.server_core.specs.Wait.{IsLongest, IsToGiveWay, longer_in, sooner_of};
+ghost use Rattle.server_core.specs.Wait.{IsLongest, IsToGiveWay, NoneGivesWay, longer_in, sooner_of};
 
 use crate::host::{Host, Mark};
 use crate::slot::Slot;
-use crate::watched::Watched;
 use connection_core::{Connection, Phase, READING};
 use std::alloc::Global;
 
@@ -55,9 +55,10 @@ enum Kind {
 /// A place for one more connection at this moment: a free one; else that of the one that has lingered
 /// longest; else, where none lingers, that of the one that has waited longest for its message to
 /// come, if it was accepted a quarter of a second ago or more.
-#[tactic(auto, using(crate::proofs::WaitLemmas::free_gives, crate::proofs::WaitLemmas::lingered_gives, crate::proofs::WaitLemmas::longest_gives))]
+#[tactic(auto, using(crate::proofs::WaitLemmas::free_gives, crate::proofs::WaitLemmas::lingered_gives, crate::proofs::WaitLemmas::longest_gives, crate::proofs::WaitLemmas::none_reads, crate::proofs::WaitLemmas::none_waited))]
 fn place_for<S>(slots: &[Slot<S>], now: u64) -> Option<usize>
-    ensures { IfSome result (λ place. IsToGiveWay now place (conns slots.now)) }
+    ensures gives { IfSome result (λ place. IsToGiveWay now place (conns slots.now)) }
+    ensures none { IfNone result (NoneGivesWay now (conns slots.now)) }
 {
     match free_place(slots) {
         Some(place) => Some(place),
@@ -73,7 +74,9 @@ fn place_for<S>(slots: &[Slot<S>], now: u64) -> Option<usize>
 
 /// Its place, if it is dropped at this moment or before.
 fn by_then(waiting: Waiting, moment: u64) -> Option<usize>
-    ensures { IfSome result (λ place. (place ≡ waiting.place) × (waiting.deadline ≤ moment)) }
+    ensures gives { IfSome result (λ place. (place ≡ waiting.place)
+        × (waiting.deadline ≤ moment)) }
+    ensures none { IfNone result (moment < waiting.deadline) }
 {
     if waiting.deadline <= moment {
         Some(waiting.place)
@@ -167,7 +170,7 @@ fn sooner(best: Option<Waiting>, other: Waiting) -> Option<Waiting>
 
 /// Accepts the next connection, if one waits and there is a place for it. How many accepts have
 /// failed in a row is counted.
-#[tactic(auto, using(crate::proofs::ServedLemmas::admits_none, crate::proofs::ServedLemmas::admits_at))]
+#[tactic(auto, using(crate::proofs::AcceptLemmas::admits_full))]
 fn admit_one<H: Host>(
     alloc: Global,
     host: &mut H,
@@ -177,7 +180,10 @@ fn admit_one<H: Host>(
     faults: &mut u64,
 ) -> Queue
     requires { length slots.old ≤ length marks.old }
-    ensures admits { (places : List ℕ) × Admits now places (conns slots.old) (conns slots.new) }
+    ensures admits { (accepts : List Accept)
+        × IsAdmitted (H.calls host.old) (H.calls host.new) now accepts
+        (conns slots.old) (conns slots.new) marks.old marks.new × IsAccept accepts result
+        × (result ≡ Queue.Full → NoneGivesWay now (conns slots.new)) }
     ensures known { faults.old ≤ (H.told host.old).failed → faults.new ≤ (H.told host.new).failed }
     ensures clock { KeepsClock (H.told host.old) (H.told host.new) }
 {
@@ -187,7 +193,7 @@ fn admit_one<H: Host>(
     match host.accept(place) {
         Ok(Some(stream)) => {
             slots[place] = Slot {
-                stream: Some(Watched::new(stream)),
+                stream: Some(stream),
                 connection: Connection::open(alloc, now),
             };
             marks[place] = Mark {
@@ -209,7 +215,7 @@ fn admit_one<H: Host>(
 }
 
 /// Accepts the connections that wait, as far as there are places for them.
-#[tactic(auto, using(crate::proofs::ServedLemmas::admits_none, crate::proofs::ServedLemmas::admits_both))]
+#[tactic(auto, using(crate::proofs::AcceptLemmas::far_none))]
 pub(crate) fn admit<H: Host>(
     alloc: Global,
     host: &mut H,
@@ -219,7 +225,10 @@ pub(crate) fn admit<H: Host>(
     faults: &mut u64,
 ) -> Queue
     requires { length slots.old ≤ length marks.old }
-    ensures admits { (places : List ℕ) × Admits now places (conns slots.old) (conns slots.new) }
+    ensures admits { (accepts : List Accept)
+        × IsAdmitted (H.calls host.old) (H.calls host.new) now accepts
+        (conns slots.old) (conns slots.new) marks.old marks.new × AreAccepts 32 accepts result
+        × (result ≡ Queue.Full → NoneGivesWay now (conns slots.new)) }
     ensures known { faults.old ≤ (H.told host.old).failed → faults.new ≤ (H.told host.new).failed }
     ensures clock { KeepsClock (H.told host.old) (H.told host.new) }
 {

@@ -1,11 +1,14 @@
 //! What holds of every server.
-ghost use Rattle.std.specs.Prelude.{◌≡◌, ◌≤◌, ◌+◌, ◌*◌, ℕ, List, length, replicate};
+ghost use Rattle.std.specs.Prelude.{◌≡◌, ◌≤◌, ◌+◌, ◌*◌, ◌⊎◌, ℕ, List, length, replicate};
 ghost use Rattle.server_core.specs.AtPlace.{KeepsPlace, answers_at};
 ghost use Rattle.connection_core.specs.Laws.{StatesAtMost};
 ghost use Rattle.connection_core.specs.Machine.{Conn, closed};
 ghost use Rattle.server_core.specs.Held.{AllOf, IsAtMost, IsHeard, held};
+ghost use Rattle.server_core.specs.Places.{HasFree};
+ghost use Rattle.server_core.specs.Rests.{IsPause, Rest};
 ghost use Rattle.server_core.specs.Served.{Runs, Serves, Turn, answers};
 
+use crate::admit::Queue;
 use crate::desk::Desk;
 
 /// Whatever its connections do, the desk makes the steps of the messages that were answered, one
@@ -22,6 +25,13 @@ pub fn once_law<D: Desk>()
     ensures { (place most : ℕ) (turns : List Turn) (olds news : List Conn) (desk next : D)
         → Serves D.States D.Steps D.shuts most turns olds desk news next → KeepsPlace place turns
         → answers_at place turns ≤ 1 }
+{}
+
+/// Where a client may wait and a place is free, no time is waited.
+pub fn pause_law()
+    ensures { (rest : Rest) (cs : List Conn) → IsPause rest cs
+        → (rest.known.queue ≡ Queue.More) ⊎ (rest.known.queue ≡ Queue.Full) → HasFree cs
+        → length cs ≤ length rest.known.marks → rest.pause ≡ 0 }
 {}
 
 /// Each message that was answered is a front of the bytes that came from its connection.

@@ -19,7 +19,6 @@ pub mod laws;
 mod server;
 mod slot;
 mod turn;
-mod watched;
 mod work;
 
 pub use desk::{Answer, Desk};
@@ -27,4 +26,3 @@ pub use ending::Ending;
 pub use host::{Host, Mark, NetFault};
 pub use server::serve;
 pub use slot::Slot;
-pub use watched::Watched;

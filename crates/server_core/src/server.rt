@@ -1,13 +1,17 @@
 //! A server, over all its turns.
 ghost use Rattle.std.specs.Prelude.{◌≡◌, ◌≤◌, ◌<◌, ◌-◌, false, true, ℕ, List, IfOk, IfSome, IsTrue, OnErr};
-ghost use Rattle.std.specs.Prelude.{OnOk, length, replicate};
+ghost use Rattle.std.specs.Prelude.{[], ◌∷◌, OnOk, length, replicate};
 ghost use Rattle.connection_core.specs.Machine.{closed};
-ghost use Rattle.server_core.specs.Host.{IsPaused, KeepsClock, wait_fails};
+ghost use Rattle.server_core.specs.Calls.{Adds, Begins};
+ghost use Rattle.server_core.specs.Host.{KeepsClock, wait_fails};
 ghost use Rattle.server_core.specs.Places.{Each, HasFree, conns};
-ghost use Rattle.server_core.specs.Served.{Admits, GoesOn, IsServed, IsStill};
+ghost use Rattle.server_core.specs.Rests.{Accept, AcceptsBy, IsPause, Rest, queue_then, rest_calls};
+ghost use Rattle.server_core.specs.Served.{GoesOn, IsAdmitted, IsServed, IsStill};
+ghost use Rattle.server_core.specs.Works.{unmarked};
 ghost use Rattle.server_core.specs.Ends.{IsDue};
 ghost use Rattle.connection_core.specs.Seen.{seen};
 ghost use Rattle.server_core.specs.Wait as wait;
+ghost use Rattle.server_core.specs.Wait.{NoneGivesWay};
 
 use crate::admit::{GRACE, Queue, admit, is_closed};
 use crate::desk::Desk;
@@ -36,11 +40,13 @@ const FAULTS: u64 = 16;
 /// Each message is answered by a step of the desk, one after the other, at the minute of the turn in
 /// which it became whole. A connection has thirty seconds for its message and thirty for its reply;
 /// where there is no place for another one, one whose reply has gone out is dropped, or else that
-/// which has waited longest for its message, for a quarter of a second at least. Once the count is reached, or
-/// the desk is shut, no further message is answered, and it ends when the replies have gone out. It
-/// ends by `Network` only where a wait has failed, or sixteen accepts in a row with no connection left,
-/// and by
-/// `Shut` only where the desk is shut.
+/// which has waited longest for its message, for a quarter of a second at least. Once the count is
+/// reached, or the desk is shut, no further message is answered, and it ends when the replies have gone
+/// out. Before each turn it waits for just as long as there is nothing to do. In its turn each place is
+/// read and written where it is marked.
+///
+/// It ends by `Network` only where a wait has failed, or sixteen accepts in a row with no connection
+/// left, and by `Shut` only where the desk is shut.
 ///
 /// `AllocError` where there is no memory for the places: then nothing is done.
 pub fn serve<H: Host, D: Desk>(
@@ -51,7 +57,8 @@ pub fn serve<H: Host, D: Desk>(
     most: u64,
 ) -> Result<Ending, AllocError>
     ensures ok { IfOk result (λ ending. IsServed D.States D.Steps D.shuts
-        (H.told host.old) (H.told host.new) places most desk.old ending desk.new) }
+        (H.told host.old) (H.told host.new) (H.calls host.old) (H.calls host.new)
+        places most desk.old ending desk.new) }
     ensures err { OnErr result (desk.new ≡ desk.old) }
 {
     let mut slots = free_slots(alloc, places)?;
@@ -91,9 +98,10 @@ fn serve_at<H: Host, D: Desk>(
 ) -> Ending
     requires free { conns slots.old ≡ replicate (length slots.old) closed }
     requires marks { length slots.old ≤ length marks.old }
+    requires unmarked { marks.old ≡ replicate (length slots.old) unmarked }
     requires buffer { 0 < length buffer.old }
     ensures { IsServed D.States D.Steps D.shuts (H.told host.old) (H.told host.new)
-        (length slots.old) most desk.old result desk.new }
+        (H.calls host.old) (H.calls host.new) (length slots.old) most desk.old result desk.new }
 {
     let mut answered = 0u64;
     let mut queue = Queue::More;
@@ -131,10 +139,14 @@ fn wait<H: Host>(
     requires { length slots.now ≤ length marks.old }
     ensures ok { OnOk result (H.told host.new ≡ H.told host.old) }
     ensures err { OnErr result (H.told host.new ≡ wait_fails (H.told host.old)) }
-    ensures paused { (now : ℕ) × IsPaused (H.paused host.new) (wait.pauses (wait.is_full queue) now
-        (wait.begins queue) (conns slots.now) marks.old) }
+    ensures rests { IfOk result (λ then. (rest : Rest)
+        × (rest.known ≡ record { queue = queue; marks = marks.old }) × (rest.marks ≡ marks.new)
+        × (queue_then rest ≡ then) × IsPause rest (conns slots.now)
+        × Adds (H.calls host.old) (H.calls host.new) (rest_calls rest)) }
+    ensures fails { OnErr result ((began : ℕ)
+        × Adds (H.calls host.old) (H.calls host.new) (Begins began ∷ [])) }
 {
-    let now = host.micros() / 1000;
+    let now = host.wait_moment();
     let pause = pause_of(slots, marks, queue, now);
     if host.wait(pause, marks)? {
         Ok(Queue::More)
@@ -167,8 +179,11 @@ fn go_on<H: Host, D: Desk>(
 ) -> u64
     requires marks { length slots.old ≤ length marks.old }
     requires buffer { 0 < length buffer.old }
-    ensures served { GoesOn D.States D.Steps D.shuts (H.told host.old) (H.told host.new) left
-        (conns slots.old) desk.old (conns slots.new) desk.new result }
+    ensures served { (rest : Rest) → IsPause rest (conns slots.old) → queue_then rest ≡ queue.old
+        → rest.marks ≡ marks.old
+        → GoesOn D.States D.Steps D.shuts (H.told host.old) (H.told host.new)
+        (H.calls host.old) (H.calls host.new) left rest (conns slots.old) desk.old
+        (conns slots.new) desk.new (record { queue = queue.new; marks = marks.new }) result }
     ensures most { result ≤ left }
     ensures known { faults.old ≤ (H.told host.old).failed → faults.new ≤ (H.told host.new).failed }
 {
@@ -190,7 +205,7 @@ fn go_on<H: Host, D: Desk>(
 }
 
 /// Accepts connections, if some may wait and it may be.
-#[tactic(auto, using(crate::proofs::ServedLemmas::admits_none))]
+#[tactic(auto, using(crate::proofs::AcceptLemmas::admits_empty, crate::proofs::AcceptLemmas::admits_held, crate::proofs::AcceptLemmas::admits_many))]
 fn admit_if<H: Host>(
     alloc: Global,
     host: &mut H,
@@ -202,7 +217,11 @@ fn admit_if<H: Host>(
     may: bool,
 )
     requires { length slots.old ≤ length marks.old }
-    ensures admits { (places : List ℕ) × Admits now places (conns slots.old) (conns slots.new) }
+    ensures admits { (accepts : List Accept)
+        × IsAdmitted (H.calls host.old) (H.calls host.new) now accepts
+        (conns slots.old) (conns slots.new) marks.old marks.new
+        × AcceptsBy queue.old may accepts queue.new
+        × (queue.new ≡ Queue.Full → NoneGivesWay now (conns slots.new)) }
     ensures known { faults.old ≤ (H.told host.old).failed → faults.new ≤ (H.told host.new).failed }
     ensures clock { KeepsClock (H.told host.old) (H.told host.new) }
 {

@@ -24,9 +24,10 @@ pub(crate) fn turn<H: Host, D: Desk>(
 ) -> u64
     requires marks { length slots.old ≤ length marks.old }
     requires buffer { 0 < length buffer.old }
-    ensures turns { TurnsOf D.States (logged (at_minute moment.minute D.Steps)) moment.now
-        (conns slots.old) (desk.old, H.told host.old)
-        (conns slots.new) (desk.new, H.told host.new) result }
+    ensures turns { TurnsOf D.States (logged (at_minute moment.minute D.Steps))
+        (H.calls host.old) (H.calls host.new) moment.now
+        marks.old (conns slots.old) (desk.old, H.told host.old)
+        marks.new (conns slots.new) (desk.new, H.told host.new) result }
     ensures most { result ≤ most }
     ensures unready { result < most → Each (λ c. c.phase ≢ Phase.Ready) (conns slots.new) }
     ensures done { Each (IsDone moment.now) (conns slots.new) }
@@ -40,6 +41,7 @@ pub(crate) fn turn<H: Host, D: Desk>(
             host,
             moment,
             buffer,
+            place,
             slot,
             mark,
             desk,

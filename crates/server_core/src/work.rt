@@ -1,9 +1,11 @@
 //! The turn of one connection.
-ghost use Rattle.std.specs.Prelude.{◌≡◌, ◌≢◌, ◌<◌, ℕ, false, true, Option, is_some, length};
+ghost use Rattle.std.specs.Prelude.{◌≡◌, ◌≢◌, ◌<◌, ℕ, Bool, false, true, List, Option};
+ghost use Rattle.std.specs.Prelude.{is_some, length};
 ghost use Rattle.connection_core.specs.Machine.{passed};
 ghost use Rattle.connection_core.specs.Seen.{seen};
-ghost use Rattle.server_core.specs.Reads.{HasReadAt, HasWrittenAt, ReadsOnce, UndoesNone};
-ghost use Rattle.server_core.specs.Reads.{WritesOnce, listens};
+ghost use Rattle.server_core.specs.Calls.{Adds, Io, at_place};
+ghost use Rattle.server_core.specs.Reads.{ReadsOnce, WritesOnce, listens};
+ghost use Rattle.server_core.specs.Works.{HasReadAt, HasWrittenAt, WorksAt};
 ghost use Rattle.server_core.specs.Turns.{Answered, IsDone, IsSettled, Moves, TakesTurn, at_minute, logged};
 
 use crate::desk::Desk;
@@ -11,7 +13,6 @@ use crate::host::{Host, Mark};
 use crate::slot::{Slot, read_some, write_some};
 use connection_core::{Connection, Framing, Phase};
 use std::alloc::Global;
-use std::io::{Read, Write};
 
 /// When a turn is: milliseconds from some moment on, and the minute since 1970-01-01 00:00 UTC.
 #[derive(Clone, Copy)]
@@ -21,28 +22,40 @@ pub struct Moment {
 }
 
 /// Reads once, if something may have come that is still looked at.
-#[tactic(auto, using(crate::proofs::TurnLemmas::moves_none, crate::proofs::StreamLemmas::moves_read, crate::proofs::ReadLemmas::is_read, crate::proofs::ReadLemmas::stays, crate::proofs::ReadLemmas::reads_on))]
-fn receive<F: Framing, S: Read>(
+#[tactic(auto, using(crate::proofs::TurnLemmas::moves_none, crate::proofs::StreamLemmas::moves_read, crate::proofs::ReadLemmas::reads_none))]
+fn receive<F: Framing, H: Host>(
     alloc: Global,
-    slot: &mut Slot<S>,
+    host: &mut H,
+    place: usize,
+    slot: &mut Slot<H::Stream>,
     mark: &mut Mark,
     buffer: &mut [u8],
 )
     requires { 0 < length buffer.old }
     ensures moves { (now : ℕ) → Moves F.States now (seen slot.old.connection)
         (seen slot.new.connection) }
-    ensures read { mark.old.readable ≡ true → listens (seen slot.old.connection).phase ≡ true
-        → ReadsOnce slot.old.stream slot.new.stream }
-    ensures on { UndoesNone slot.old.stream slot.new.stream }
-    ensures heard { HasReadAt F.States S.remaining slot.old slot.new }
+    ensures read { (ios : List Io)
+        × Adds (H.calls host.old) (H.calls host.new) (at_place place ios)
+        × ReadsOnce mark.old (listens (seen slot.old.connection).phase) ios mark.new
+        × HasReadAt F.States H.remaining ios slot.old.stream (seen slot.old.connection)
+        slot.new.stream (seen slot.new.connection) }
     ensures deaf { listens (seen slot.old.connection).phase ≡ false
-        → (slot.new ≡ slot.old) × (mark.new ≡ mark.old) }
+        → (seen slot.new.connection ≡ seen slot.old.connection) × (mark.new ≡ mark.old) }
+    ensures told { H.told host.new ≡ H.told host.old }
 {
     match slot.connection.phase() {
         Phase::Reading(_) | Phase::Lingering => {
             if mark.readable {
                 if let Some(stream) = &mut slot.stream {
-                    read_some::<F, S>(alloc, stream, &mut slot.connection, mark, buffer);
+                    read_some::<F, H>(
+                        alloc,
+                        host,
+                        place,
+                        stream,
+                        &mut slot.connection,
+                        mark,
+                        buffer,
+                    );
                 }
             }
         }
@@ -66,6 +79,8 @@ fn answer<H: Host, D: Desk>(
     ensures asked { result ≡ true → may ≡ true }
     ensures unready { may ≡ true → (seen connection.new).phase ≢ Phase.Ready }
     ensures stays { (seen connection.old).phase ≢ Phase.Ready → connection.new ≡ connection.old }
+    ensures writes { result ≡ true → (seen connection.new).phase ≡ Phase.Writing }
+    ensures calls { H.calls host.new ≡ H.calls host.old }
 {
     if !may {
         return false;
@@ -85,20 +100,19 @@ fn answer<H: Host, D: Desk>(
 
 /// Tells the peer that no more comes, where the reply has gone out.
 fn shut_if_written<H: Host>(host: &mut H, slot: &Slot<H::Stream>)
-    ensures { H.told host.new ≡ H.told host.old }
+    ensures told { H.told host.new ≡ H.told host.old }
+    ensures calls { H.calls host.new ≡ H.calls host.old }
 {
     if let Phase::Lingering = slot.connection.phase() {
         if let Some(stream) = &slot.stream {
-            host.shut(stream.stream());
+            host.shut(stream);
         }
     }
 }
 
 /// Drops the connection if its deadline has come, and its stream where it is over.
-#[tactic(auto, using(crate::proofs::ReadLemmas::none_on, crate::proofs::ReadLemmas::stays))]
 fn finish<S: Drop>(alloc: Global, slot: &mut Slot<S>, now: u64)
-    ensures passed { seen slot.new.connection ≡ passed (seen slot.old.connection) now }
-    ensures on { UndoesNone slot.old.stream slot.new.stream }
+    ensures { seen slot.new.connection ≡ passed (seen slot.old.connection) now }
 {
     slot.connection.pass(alloc, now);
     if let Phase::Closed = slot.connection.phase() {
@@ -107,24 +121,36 @@ fn finish<S: Drop>(alloc: Global, slot: &mut Slot<S>, now: u64)
 }
 
 /// One write to its stream.
-#[tactic(auto, using(crate::proofs::TurnLemmas::moves_none, crate::proofs::ReadLemmas::stays))]
-fn write_at<F: Framing, S: Write>(alloc: Global, slot: &mut Slot<S>, mark: &mut Mark, now: u64)
-    requires { (seen slot.old.connection).phase ≡ Phase.Writing }
+#[tactic(auto, using(crate::proofs::TurnLemmas::moves_none))]
+fn write_at<F: Framing, H: Host>(
+    alloc: Global,
+    host: &mut H,
+    place: usize,
+    slot: &mut Slot<H::Stream>,
+    mark: &mut Mark,
+    now: u64,
+)
+    requires marked { mark.old.writable ≡ true }
+    requires writing { (seen slot.old.connection).phase ≡ Phase.Writing }
     ensures moves { Moves F.States now (seen slot.old.connection) (seen slot.new.connection) }
-    ensures on { UndoesNone slot.old.stream slot.new.stream }
-    ensures written { WritesOnce slot.old.stream slot.new.stream }
-    ensures told { HasWrittenAt now S.contents slot.old slot.new }
+    ensures written { (ios : List Io)
+        × Adds (H.calls host.old) (H.calls host.new) (at_place place ios)
+        × WritesOnce mark.old (seen slot.old.connection).phase ios mark.new
+        × HasWrittenAt now H.contents ios slot.old.stream (seen slot.old.connection)
+        slot.new.stream (seen slot.new.connection) }
+    ensures told { H.told host.new ≡ H.told host.old }
 {
     if let Some(stream) = &mut slot.stream {
-        write_some::<S>(alloc, stream, &mut slot.connection, mark, now);
+        write_some::<H>(alloc, host, place, stream, &mut slot.connection, mark, now);
     }
 }
 
 /// Writes once, if something is left to write and may be taken.
-#[tactic(auto, using(crate::proofs::TurnLemmas::moves_none, crate::proofs::TurnLemmas::writing_unready, crate::proofs::ReadLemmas::stays))]
+#[tactic(auto, using(crate::proofs::TurnLemmas::moves_none, crate::proofs::TurnLemmas::writing_unready, crate::proofs::ReadLemmas::writes_none))]
 fn send<F: Framing, H: Host>(
     alloc: Global,
     host: &mut H,
+    place: usize,
     slot: &mut Slot<H::Stream>,
     mark: &mut Mark,
     now: u64,
@@ -132,15 +158,15 @@ fn send<F: Framing, H: Host>(
     ensures moves { Moves F.States now (seen slot.old.connection) (seen slot.new.connection) }
     ensures unready { (seen slot.old.connection).phase ≢ Phase.Ready
         → (seen slot.new.connection).phase ≢ Phase.Ready }
-    ensures kept { H.told host.new ≡ H.told host.old }
-    ensures on { UndoesNone slot.old.stream slot.new.stream }
-    ensures written { mark.old.writable ≡ true → (seen slot.old.connection).phase ≡ Phase.Writing
-        → WritesOnce slot.old.stream slot.new.stream }
+    ensures told { H.told host.new ≡ H.told host.old }
+    ensures written { (ios : List Io)
+        × Adds (H.calls host.old) (H.calls host.new) (at_place place ios)
+        × WritesOnce mark.old (seen slot.old.connection).phase ios mark.new }
 {
     match slot.connection.phase() {
         Phase::Writing => {
             if mark.writable {
-                write_at::<F, H::Stream>(alloc, slot, mark, now);
+                write_at::<F, H>(alloc, host, place, slot, mark, now);
                 shut_if_written(host, slot);
             }
         }
@@ -150,15 +176,20 @@ fn send<F: Framing, H: Host>(
 
 /// Where the reply has gone out, what still waits is read and dropped, once. Where nothing does, and
 /// the message was whole, the connection is over.
-#[tactic(auto, using(crate::proofs::TurnLemmas::moves_none, crate::proofs::TurnLemmas::moves_settled, crate::proofs::TurnLemmas::settled_settled, crate::proofs::TurnLemmas::settled_unready, crate::proofs::ReadLemmas::stays))]
-fn settle<F: Framing, S: Read>(
+#[tactic(auto, using(crate::proofs::TurnLemmas::moves_none, crate::proofs::TurnLemmas::moves_settled, crate::proofs::TurnLemmas::settled_settled, crate::proofs::TurnLemmas::settled_unready, crate::proofs::ReadLemmas::settles_none))]
+fn settle<F: Framing, H: Host>(
     alloc: Global,
-    slot: &mut Slot<S>,
+    host: &mut H,
+    place: usize,
+    slot: &mut Slot<H::Stream>,
     mark: &mut Mark,
     buffer: &mut [u8],
 )
     requires { 0 < length buffer.old }
-    ensures on { UndoesNone slot.old.stream slot.new.stream }
+    ensures read { (ios : List Io)
+        × Adds (H.calls host.old) (H.calls host.new) (at_place place ios)
+        × (lingering : Bool) × ReadsOnce mark.old lingering ios mark.new }
+    ensures told { H.told host.new ≡ H.told host.old }
     ensures moves { (now : ℕ) → Moves F.States now (seen slot.old.connection)
         (seen slot.new.connection) }
     ensures settled { IsSettled (seen slot.new.connection) }
@@ -167,7 +198,7 @@ fn settle<F: Framing, S: Read>(
 {
     match slot.connection.phase() {
         Phase::Lingering => {
-            receive::<F, S>(alloc, slot, mark, buffer);
+            receive::<F, H>(alloc, host, place, slot, mark, buffer);
             slot.connection.settle(alloc);
         }
         Phase::Reading(_) | Phase::Ready | Phase::Writing | Phase::Closed => {}
@@ -183,16 +214,16 @@ pub(crate) fn work<H: Host, D: Desk>(
     host: &mut H,
     moment: Moment,
     buffer: &mut [u8],
+    place: usize,
     slot: &mut Slot<H::Stream>,
     mark: &mut Mark,
     desk: &mut D,
     may: bool,
 ) -> bool
     requires { 0 < length buffer.old }
-    ensures read { mark.old.readable ≡ true → listens (seen slot.old.connection).phase ≡ true
-        → ReadsOnce slot.old.stream slot.new.stream }
-    ensures written { mark.old.writable ≡ true → (seen slot.old.connection).phase ≡ Phase.Writing
-        → WritesOnce slot.old.stream slot.new.stream }
+    ensures works { (ios : List Io)
+        × Adds (H.calls host.old) (H.calls host.new) (at_place place ios)
+        × WorksAt mark.old (seen slot.old.connection) result ios mark.new }
     ensures turn { (a : Option Answered) × (is_some a ≡ result)
         × TakesTurn D.States (logged (at_minute moment.minute D.Steps)) moment.now a
         (seen slot.old.connection) (desk.old, H.told host.old) (seen slot.new.connection) (desk.new, H.told host.new) }
@@ -200,10 +231,10 @@ pub(crate) fn work<H: Host, D: Desk>(
     ensures unready { may ≡ true → (seen slot.new.connection).phase ≢ Phase.Ready }
     ensures done { IsDone moment.now (seen slot.new.connection) }
 {
-    receive::<D, H::Stream>(alloc, slot, mark, buffer);
+    receive::<D, H>(alloc, host, place, slot, mark, buffer);
     let answered = answer(alloc, host, moment, &mut slot.connection, desk, may);
-    send::<D, H>(alloc, host, slot, mark, moment.now);
-    settle::<D, H::Stream>(alloc, slot, mark, buffer);
+    send::<D, H>(alloc, host, place, slot, mark, moment.now);
+    settle::<D, H>(alloc, host, place, slot, mark, buffer);
     finish(alloc, slot, moment.now);
     answered
 }

@@ -5,6 +5,7 @@ use Rattle.settings_core.specs.declared.settings.Settings.{Settings}
 use Rattle.std.specs.Prelude.{IfOk}
 use Rattle.std.specs.declared.alloc.AllocError.{AllocError}
 use Rattle.connection_core.specs.Machine.{Conn}
+use Rattle.server_core.specs.Calls.{Call}
 use Rattle.server_core.specs.Host.{Told}
 use Rattle.server_core.specs.Served.{IsServed, Runs, Serves, Turn, answers}
 use Rattle.server_core.specs.declared.ending.Ending.{Ending}
@@ -41,7 +42,7 @@ runs_both {D} settings_in tables_in Notes (a ∷ rest) old new (mid, (step, same
 -- what a server has done is a run of messages
 pub served_messages : {D : Type 0} (settings_in : D → Settings) (tables_in : D → State)
     (States : List ℕ → Option ℕ → Type 0) (Notes : D → Answered → D → Type 0) (shuts : D → Bool)
-    (told tells : Told)
+    (told tells : Told) (calls called : Option (List Call))
     → ((most : ℕ) (turns : List Turn) (olds news : List Conn) (desk next : D)
     → Serves States (λ a m b. StepsAt (settings_in a) (tables_in a) m (tables_in b)
     × (settings_in b ≡ settings_in a) × Notes a m b) shuts most turns olds desk news next
@@ -49,12 +50,14 @@ pub served_messages : {D : Type 0} (settings_in : D → Settings) (tables_in : D
     × (settings_in b ≡ settings_in a) × Notes a m b) (answers turns) desk next)
     → (places most : ℕ) (old new : D) (r : Result Ending AllocError)
     → IfOk r (λ ending. IsServed States (λ a m b. StepsAt (settings_in a) (tables_in a) m (tables_in b)
-    × (settings_in b ≡ settings_in a) × Notes a m b) shuts told tells places most old ending new)
+    × (settings_in b ≡ settings_in a) × Notes a m b) shuts told tells calls called places most old ending new)
     → IfOk r (λ ending. RunsSome (settings_in old) (tables_in old) (tables_in new))
-served_messages settings_in tables_in States Notes shuts told tells law places most old new (Err e) served =
+served_messages settings_in tables_in States Notes shuts told tells calls called law places most old new
+    (Err e) served =
     tt
-served_messages settings_in tables_in States Notes shuts told tells law places most old new (Ok ending)
-    (news, count, turns, (ts, serves, answered, many, clock), ends) =
+served_messages settings_in tables_in States Notes shuts told tells calls called law places most old new
+    (Ok ending)
+    (news, left, count, turns, last, (ts, serves, answered, many, clock, linked, adds), ends, rest) =
     let run =
     runs_both settings_in tables_in Notes (answers ts) old new (law most ts _ news old new serves) in
     (answers ts, run.0, run.1)

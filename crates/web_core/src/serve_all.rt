@@ -34,7 +34,8 @@ pub fn serve_web<H: Host, S: Backend, C: Copies>(
     ensures ran { IfOk result (λ ending. RunsSome (settings_of S.Store desk.old.desk)
         (tables_of S.Store desk.old.desk) (tables_of S.Store desk.new.desk)) }
     ensures served { IfOk result (λ ending. IsServed (States ByPlace) (web.Steps S.Store C.made)
-        (web.shuts S.Store) (H.told host.old) (H.told host.new) places most desk.old ending desk.new) }
+        (web.shuts S.Store) (H.told host.old) (H.told host.new) (H.calls host.old) (H.calls host.new)
+        places most desk.old ending desk.new) }
     ensures shut { IfOk result (λ ending. ending ≡ Ending.Shut → desk.new.is_shut ≡ false
         → desk.new.stops ≡ true) }
     ensures seen { desk.new.is_shut ≡ true → IsShut (tables_of S.Store desk.new.desk) }

@@ -1,10 +1,9 @@
 -- A reply whose text stands apart from its head.
 use Rattle.std.proofs.Common.{◌≤◌, ◌<◌, ◌+◌, ◌^◌, ◌++◌, ℕ, true, [], Option, length, length-append}
-use Rattle.std.proofs.Common.{arith, decimal, lit<}
+use Rattle.std.proofs.Common.{ap, arith, decimal, lit<}
 use Rattle.std.proofs.lemmas.Fmt.{length-decimal-le}
-use Rattle.message_core.specs.Reply.{IsReply, allow_line, bytes_of, fields, last_line}
-use Rattle.message_core.specs.Reply.{status_line, type_line}
-use Rattle.message_core.proofs.ReplyLemmas.{short_reply}
+use Rattle.message_core.specs.Reply.{IsReply, bytes_of, head_of as text_head, last_line, status_line}
+use Rattle.message_core.proofs.ReplyLemmas.{allow_line, fields, head_is, short_reply, type_line}
 use Rattle.message_core.specs.declared.reply.Allow.{Allow}
 use Rattle.message_core.specs.declared.reply.Reply.{Reply}
 use Rattle.wire_core.specs.Replies.{reply_with}
@@ -42,8 +41,10 @@ head_short reply is wide =
       arith,
       short,
       fields_grow reply.allow (length reply.body) wide,
-      length-append line (told ++ []),
-      length-append told [],
-      length-append line (none ++ []),
-      length-append none [],
+      ap length (head_is reply.status reply.allow (length reply.body)),
+      ap length (head_is reply.status reply.allow 0),
+      length-append line told,
+      length-append line none,
+      length-append (text_head reply.status reply.allow (length reply.body)) [],
+      length-append (text_head reply.status reply.allow 0) [],
     )

@@ -7,7 +7,7 @@ use Rattle.desk_model.specs.Desk.{Desk}
 use Rattle.desk_model.specs.Step.{Ask, Outcome, Steps}
 use Rattle.desk_model.specs.declared.answer.Answer.TheVariants as answer
 use Rattle.desk_texts.specs.Texts.{outcome_text}
-use Rattle.message_core.specs.Reply.{bytes_of, status_line}
+use Rattle.message_core.specs.Reply.{bytes_of, head_of, status_line}
 use Rattle.message_core.specs.declared.message.Message.{Message}
 use Rattle.message_core.specs.declared.fault.WireFault.{WireFault}
 use Rattle.route_core.specs.Commands.{Asked}
@@ -22,11 +22,11 @@ abbrev digit : List ℕ → ℕ
 digit bytes = get_or (take 12 bytes) 9 0
 
 filed_digit : (h : Bool) (text : List ℕ) → digit (bytes_of (reply_with 201 None text h)) ≡ 50
-unfolding digits status_line
+unfolding digits head_of status_line
 filed_digit h text = refl
 
 done_digit : (h : Bool) (text : List ℕ) → digit (bytes_of (reply_with 200 None text h)) ≡ 50
-unfolding digits status_line
+unfolding digits head_of status_line
 done_digit h text = refl
 
 -- ---- a step

@@ -22,7 +22,7 @@ returns-clause-turn g c =
       told_line (g.H.Host.told c.args.host.now) (g.H.Host.told c.micros-began.new.self)
           (g.H.Host.told c.micros.new.self) (g.H.Host.told c.log.new.self) _ _
           (answered_as c.args.moment.minute (seen c.args.connection.now).came c.step-answer.result)
-          c.micros-began.ensures c.micros.ensures c.as_slice.ensures.value c.bytes.ensures
-          c.log.ensures,
+          c.micros-began.ensures.told c.micros.ensures.told c.as_slice.ensures.value c.bytes.ensures
+          c.log.ensures.told,
     )
     c.answer.ensures refl

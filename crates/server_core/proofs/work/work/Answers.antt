@@ -1,11 +1,9 @@
 -- its turn is that of its message, between what it reads and what it writes
-use Rattle.std.proofs.Common.{◌≡◌, ◌∙◌, ap, subst, sym}
+use Rattle.std.proofs.Common.{◌∙◌, ap}
 use Rattle.connection_core.specs.Seen.{seen}
-use Rattle.connection_core.specs.declared.phase.Phase.TheVariants.{Ready, Writing}
-use Rattle.server_core.specs.Reads.{WritesOnce, listens}
 use Rattle.server_core.specs.Turns.{at_minute, logged}
-use Rattle.server_core.proofs.ReadLemmas.{both_on, once_on, written_on}
-use Rattle.server_core.proofs.TurnLemmas.{moves_both, moves_passed, turn_told, turn_within}
+use Rattle.server_core.proofs.ReadLemmas.{works_told}
+use Rattle.server_core.proofs.TurnLemmas.{moves_both, moves_passed, turn_begins, turn_told, turn_within}
 use Rattle.server_core.proofs.work.work.Goals as goal
 
 pub returns-clause-turn : goal.returns-clause-turn
@@ -14,8 +12,8 @@ returns-clause-turn g c =
     turn_told g.D.Framing.States (logged (at_minute c.args.moment.minute g.D.Desk.Steps)) now
     (seen c.args.slot.now.connection) (seen c.finish.new.slot.connection) c.args.desk.now
     c.answer-answered.new.desk (g.H.Host.told c.args.host.now)
-    (g.H.Host.told c.answer-answered.new.host) (g.H.Host.told c.send.new.host)
-    c.answer-answered.result c.send.ensures.kept
+    (g.H.Host.told c.answer-answered.new.host) (g.H.Host.told c.settle.new.host)
+    c.answer-answered.result (c.settle.ensures.told ∙ c.send.ensures.told)
     (turn_within g.D.Framing.States (logged (at_minute c.args.moment.minute g.D.Desk.Steps)) now
     (seen c.args.slot.now.connection) (seen c.receive.new.slot.connection)
     (seen c.answer-answered.new.connection) (seen c.finish.new.slot.connection)
@@ -23,31 +21,19 @@ returns-clause-turn g c =
     (c.answer-answered.new.desk, g.H.Host.told c.answer-answered.new.host) c.answer-answered.result (c.receive.ensures.moves now)
     (moves_both g.D.Framing.States now _ (seen c.send.new.slot.connection) _ c.send.ensures.moves
     (moves_both g.D.Framing.States now _ (seen c.settle.new.slot.connection) _
-    (c.settle.ensures.moves now) (moves_passed g.D.Framing.States now _ _ c.finish.ensures.passed)))
-    c.answer-answered.ensures.turn)
+    (c.settle.ensures.moves now) (moves_passed g.D.Framing.States now _ _ c.finish.ensures)))
+    (turn_begins g.D.Framing.States (logged (at_minute c.args.moment.minute g.D.Desk.Steps)) now _ _
+    c.args.desk.now _ (g.H.Host.told c.args.host.now) (g.H.Host.told c.receive.new.host) _ _
+    c.receive.ensures.told c.answer-answered.ensures.turn))
 
--- where its mark says so, it reads, and nothing of that is undone
-pub returns-clause-read : goal.returns-clause-read
-returns-clause-read g c marked listening =
-    once_on c.args.slot.now.stream c.receive.new.slot.stream c.finish.new.slot.stream
-    (c.receive.ensures.read marked listening)
-    (both_on c.receive.new.slot.stream c.send.new.slot.stream c.finish.new.slot.stream
-    c.send.ensures.on
-    (both_on c.send.new.slot.stream c.settle.new.slot.stream c.finish.new.slot.stream
-    c.settle.ensures.on c.finish.ensures.on))
-
--- where its reply goes out and its mark says so, it writes, and nothing of that is undone
-pub returns-clause-written : goal.returns-clause-written
-returns-clause-written g c marked writing =
-    let deaf = c.receive.ensures.deaf (ap listens writing) in
-    let mid : (seen c.receive.new.slot.connection).phase ≡ Writing =
-    ap (λ slot. (seen slot.connection).phase) deaf.0 ∙ writing in
-    let same = c.answer-answered.ensures.stays
-    (λ ready. let no : Writing ≡ Ready = sym mid ∙ ready in cc) in
-    written_on c.args.slot.now.stream c.send.new.slot.stream c.finish.new.slot.stream
-    (subst (λ stream. WritesOnce stream c.send.new.slot.stream)
-    (ap (λ slot. slot.stream) deaf.0)
-    (c.send.ensures.written (ap (λ mark. mark.writable) deaf.1 ∙ marked)
-    (ap (λ connection. (seen connection).phase) same ∙ mid)))
-    (both_on c.send.new.slot.stream c.settle.new.slot.stream c.finish.new.slot.stream
-    c.settle.ensures.on c.finish.ensures.on)
+-- one whose reply goes out is in that phase when it is written: it has listened to nothing, or is
+-- answered now
+pub returns-clause-works : goal.returns-clause-works
+returns-clause-works g c =
+    works_told c.args.place _ _ _ _ _ c.args.mark.now c.receive.new.mark c.send.new.mark
+    c.settle.new.mark (seen c.args.slot.now.connection) (seen c.receive.new.slot.connection)
+    (seen c.answer-answered.new.connection) c.answer-answered.result
+    (λ deaf. ap (λ x. x.phase) (c.receive.ensures.deaf deaf).0)
+    (λ unready. ap (λ x. (seen x).phase) (c.answer-answered.ensures.stays unready))
+    c.answer-answered.ensures.writes _ c.receive.ensures.read c.answer-answered.ensures.calls
+    c.send.ensures.written c.settle.ensures.read

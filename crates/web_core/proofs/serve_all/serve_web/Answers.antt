@@ -12,5 +12,6 @@ returns-clause-ran g c =
     served_messages (λ d. settings_of g.S.Store d.desk) (λ d. tables_of g.S.Store d.desk)
     (States ByPlace) (IsTaken g.S.Store g.C.Copies.made) (shuts g.S.Store)
     (g.H.Host.told c.args.host.now) (g.H.Host.told c.serve.new.host)
+    (g.H.Host.calls c.args.host.now) (g.H.Host.calls c.serve.new.host)
     c.run_law.ensures c.args.places c.args.most c.args.desk.now c.serve.new.desk c.serve.result
     c.serve.ensures.ok

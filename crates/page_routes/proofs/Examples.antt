@@ -1,0 +1,247 @@
+-- Examples of the definitions: which paths are those of the pages and which take a post, where their
+-- targets lead, what the fields of a form give, and what a browser's message asks.
+use Rattle.std.specs.Prelude.{◌≡◌, refl, ℕ, true, false, List, [], ◌∷◌, codes, Some, None, Ok, Err}
+use Rattle.std.specs.Fmt.{digits}
+use Rattle.browser_core.specs.declared.form.Field.{Field}
+use Rattle.desk_forms.specs.declared.paths.Method.TheVariants.{Get, Post}
+use Rattle.desk_forms.specs.declared.table.Form.TheVariants as forms
+use Rattle.desk_model.specs.declared.command.Command.TheVariants as command
+use Rattle.find_core.specs.declared.search.Place as find
+use Rattle.find_form.specs.declared.shown.Start.TheVariants.{First, After, Before}
+use Rattle.page_routes.specs.Faults.{name_of, number_of, status_of}
+use Rattle.page_routes.specs.Filled.{filled, names_in, needed, others}
+use Rattle.page_routes.specs.Paths.{path_of, reply_path}
+use Rattle.page_routes.specs.Places.{act_named, behind, fixed, is_page_path, method_named, path_in}
+use Rattle.page_routes.specs.Places.{queue_page, takes_post}
+use Rattle.page_routes.specs.Visits.{acted, asked_at, asked_by, form_of, going, page_or_home, sent_on}
+use Rattle.page_routes.specs.Visits.{signed}
+use Rattle.page_routes.specs.declared.fault.PageFault.TheVariants.{NoRoute, BadMethod, OtherSite}
+use Rattle.page_routes.specs.declared.fault.PageFault.TheVariants.{BadBody}
+use Rattle.page_routes.specs.declared.page.Page.TheVariants as pages
+use Rattle.page_routes.specs.declared.place.Place.TheVariants as places
+use Rattle.page_routes.specs.declared.visit.Sent.TheVariants as sends
+use Rattle.page_routes.specs.declared.visit.Visit.TheVariants as visits
+
+-- Faults.antt
+
+number_of_a_bad_body : number_of BadBody ≡ 4
+number_of_a_bad_body = refl
+
+number_of_another_site : number_of OtherSite ≡ 6
+number_of_another_site = refl
+
+name_of_a_bad_method : name_of (BadMethod true) ≡ codes "BadMethod"
+name_of_a_bad_method = refl
+
+bad_method_is_not_allowed : status_of (BadMethod false) ≡ 405
+bad_method_is_not_allowed = refl
+
+other_site_is_forbidden : status_of OtherSite ≡ 403
+other_site_is_forbidden = refl
+
+no_route_is_not_found : status_of NoRoute ≡ 404
+no_route_is_not_found = refl
+
+-- Places.antt: which paths are those of the pages
+
+path_up_to_the_question_mark : path_in (codes "/desk/find?a=?") ≡ codes "/desk/find"
+path_up_to_the_question_mark = refl
+
+first_page_is_one : is_page_path (codes "/") ≡ true
+first_page_is_one = refl
+
+style_sheet_is_one : is_page_path (codes "/style.css") ≡ true
+style_sheet_is_one = refl
+
+desk_is_one : is_page_path (codes "/desk") ≡ true
+desk_is_one = refl
+
+-- though no page stands there
+all_below_the_desk_are : is_page_path (codes "/desk/") ≡ true
+all_below_the_desk_are = refl
+
+path_that_begins_so_is_not : is_page_path (codes "/desks") ≡ false
+path_that_begins_so_is_not = refl
+
+queues_of_the_interface_are_not : is_page_path (codes "/queues") ≡ false
+queues_of_the_interface_are_not = refl
+
+other_sheet_is_not : is_page_path (codes "/style.csss") ≡ false
+other_sheet_is_not = refl
+
+-- Places.antt: the place of a path
+
+first_page : fixed (codes "/") ≡ Some (places.Page pages.Home)
+first_page = refl
+
+late_requests : fixed (codes "/desk/overdue") ≡ Some (places.Page pages.Overdue)
+late_requests = refl
+
+path_with_a_stroke_more : fixed (codes "/desk/overdue/") ≡ None
+path_with_a_stroke_more = refl
+
+act_on_a_request : act_named (codes "untake") ≡ Some forms.Untake
+act_on_a_request = refl
+
+no_act_on_a_request : act_named (codes "resolve") ≡ None
+no_act_on_a_request = refl
+
+what_stands_behind : behind (codes "/desk/queues/") (codes "/desk/queues/it") ≡ Some (codes "it")
+what_stands_behind = refl
+
+nothing_stands_behind : behind (codes "/desk/queues/") (codes "/desk/queues") ≡ None
+nothing_stands_behind = refl
+
+queue_alone : queue_page (codes "it") None ≡ Some (places.Page (pages.Queue (codes "it")))
+queue_alone = refl
+
+form_of_a_queue : queue_page (codes "it") (Some (codes "new")) ≡ Some (places.Page (pages.New (codes "it")))
+form_of_a_queue = refl
+
+no_page_of_a_queue : queue_page (codes "it") (Some []) ≡ None
+no_page_of_a_queue = refl
+
+-- Places.antt: methods
+
+get_by_its_name : method_named (codes "GET") ≡ Some Get
+get_by_its_name = refl
+
+post_in_small_letters : method_named (codes "post") ≡ None
+post_in_small_letters = refl
+
+form_takes_a_post : takes_post (places.Page (pages.New (codes "it"))) ≡ true
+form_takes_a_post = refl
+
+page_takes_none : takes_post (places.Page (pages.Queue (codes "it"))) ≡ false
+page_takes_none = refl
+
+act_takes_a_post : takes_post (places.Act forms.Take 7) ≡ true
+act_takes_a_post = refl
+
+style_sheet_takes_none : takes_post places.Style ≡ false
+style_sheet_takes_none = refl
+
+-- Paths.antt
+
+path_of_a_form : path_of (pages.New (codes "it")) ≡ codes "/desk/queues/it/new"
+path_of_a_form = refl
+
+path_of_a_request : path_of (pages.Request 7) ≡ codes "/desk/requests/7"
+unfolding digits
+path_of_a_request = refl
+
+abbrev place : ℕ → ℕ → find.Place
+place key id = record { key = key; id = id }
+
+path_of_a_search : path_of (pages.Find (codes "words=jam") First) ≡ codes "/desk/find?words=jam"
+path_of_a_search = refl
+
+path_of_a_later_page :
+    path_of (pages.Find (codes "words=jam") (After (place 500 7)))
+    ≡ codes "/desk/find/after/500/7?words=jam"
+unfolding digits
+path_of_a_later_page = refl
+
+path_of_an_earlier_page :
+    path_of (pages.Find [] (Before (place 4294967296 7))) ≡ codes "/desk/find/before/none/7?"
+unfolding digits
+path_of_an_earlier_page = refl
+
+path_of_the_end_of_a_history : reply_path 7 ≡ codes "/desk/requests/7#reply"
+unfolding digits
+path_of_the_end_of_a_history = refl
+
+-- Filled.antt
+
+form_of_a_link : needed forms.Link ≡ codes "kind" ∷ codes "other" ∷ []
+form_of_a_link = refl
+
+form_of_taking_has_no_fields : needed forms.Take ≡ []
+form_of_taking_has_no_fields = refl
+
+status_beside_a_reply : others forms.Reply ≡ codes "status" ∷ []
+status_beside_a_reply = refl
+
+nothing_beside_a_comment : others forms.Comment ≡ []
+nothing_beside_a_comment = refl
+
+empty_value_is_none : filled (Some []) ≡ None
+empty_value_is_none = refl
+
+value_of_one_letter : filled (Some (codes "a")) ≡ Some (codes "a")
+value_of_one_letter = refl
+
+names_between_spaces : names_in (codes " ann  bob ") ≡ codes "ann" ∷ codes "bob" ∷ []
+names_between_spaces = refl
+
+no_names : names_in [] ≡ []
+no_names = refl
+
+-- Visits.antt
+
+abbrev field : List ℕ → List ℕ → Field
+field name value = record { name = name; value = value }
+
+page_of_an_address : page_or_home (Some (places.Page pages.Overdue)) ≡ pages.Overdue
+page_of_an_address = refl
+
+place_that_is_no_page : page_or_home (Some places.SignOut) ≡ pages.Home
+place_that_is_no_page = refl
+
+unknown_token : signed None true pages.Overdue ≡ visits.NotSignedIn pages.Overdue
+unknown_token = refl
+
+known_token : signed (Some (codes "secret")) true pages.Home ≡ visits.SignedIn (codes "secret") true pages.Home
+known_token = refl
+
+request_by_its_number : going (field (codes "number") (codes "7") ∷ []) ≡ Ok (visits.Go 7)
+request_by_its_number = refl
+
+number_with_a_letter : going (field (codes "number") (codes "7a") ∷ []) ≡ Err BadBody
+number_with_a_letter = refl
+
+field_too_many : going (field (codes "number") (codes "7") ∷ field (codes "a") [] ∷ []) ≡ Err BadBody
+field_too_many = refl
+
+reply_with_a_status :
+    sent_on forms.Reply 7 (field (codes "text") (codes "Hi") ∷ field (codes "status") (codes "open") ∷ [])
+    ≡ sends.Reply 7 (codes "Hi") (Some (codes "open"))
+reply_with_a_status = refl
+
+reply_without_one :
+    sent_on forms.Reply 7 (field (codes "text") (codes "Hi") ∷ field (codes "status") [] ∷ [])
+    ≡ sends.Reply 7 (codes "Hi") None
+reply_without_one = refl
+
+other_acts_send_a_change : sent_on forms.Take 7 [] ≡ sends.Change 7
+other_acts_send_a_change = refl
+
+no_command_is_a_bad_body : acted (codes "ann") (sends.Change 7) None ≡ Err BadBody
+no_command_is_a_bad_body = refl
+
+command_of_a_caller :
+    acted (codes "ann") (sends.Change 7) (Some (command.Take 7))
+    ≡ Ok (visits.Act (codes "ann") (command.Take 7) (sends.Change 7))
+command_of_a_caller = refl
+
+taking_by_a_post :
+    asked_at (codes "ann") (places.Act forms.Take 7) []
+    ≡ Ok (visits.Act (codes "ann") (command.Take 7) (sends.Change 7))
+taking_by_a_post = refl
+
+taking_with_a_field :
+    asked_at (codes "ann") (places.Act forms.Take 7) (field (codes "a") [] ∷ []) ≡ Err BadBody
+taking_with_a_field = refl
+
+post_to_a_page_without_one : asked_at (codes "ann") (places.Page pages.Home) [] ≡ Err (BadMethod false)
+post_to_a_page_without_one = refl
+
+form_of_an_act_stands_at_its_request : form_of (places.Act forms.Take 7) ≡ pages.Request 7
+form_of_an_act_stands_at_its_request = refl
+
+-- the cookie comes before the body
+nobody_with_a_bad_body : asked_by (places.Act forms.Take 7) None None ≡ Ok (visits.Unknown (pages.Request 7) false)
+nobody_with_a_bad_body = refl
+
+bad_body_of_a_caller : asked_by (places.Act forms.Take 7) (Some (codes "ann")) None ≡ Err BadBody
+bad_body_of_a_caller = refl
