@@ -5,9 +5,8 @@ use crate::echo::echo_of;
 use crate::stream::FakeStream;
 use server_core::{Host, Mark, NetFault};
 use std::alloc::Global;
-use std::io;
 use std::io::{Read, Write};
-use std::str;
+use std::{io, str};
 
 /// 2026-03-06 17:30 UTC, the minute of each message.
 pub const MINUTE: u32 = 29_546_970;

@@ -1,70 +1,54 @@
--- The markup of the form for a new request, and of the page that shows it.
-use Rattle.std.proofs.Common.{ℕ, List, [], ◌∷◌, refl}
+-- The markup of the form for a new request, and of its page.
+use Rattle.std.proofs.Common.{◌≡◌, ℕ, arith, List, [], ◌∷◌, length, map, refl, ap}
 use Rattle.std.specs.Str.{bytes_eq}
-use Rattle.page_core.specs.Markup.{HasMarkup, markup_of}
-use Rattle.page_core.proofs.Shows.{Shows, both, each_shows, has_markup, shows}
+use Rattle.page_core.specs.Markup.{SameMarkup}
+use Rattle.page_core.specs.Template.{through}
+use Rattle.page_core.proofs.Same.{same_both, same_filled, same_flags, same_rows}
+use Rattle.desk_pages.specs.Ask.{ask, status_row, usual_told}
+use Rattle.desk_pages.specs.New.{new_page, new_top}
 use Rattle.desk_pages.specs.declared.frame.Place.TheVariants.{Elsewhere}
-use Rattle.desk_pages.specs.Ask.{ask, ask_end, ask_markup, requestors_field, status_end}
-use Rattle.desk_pages.specs.Ask.{status_field, status_markup, status_part, status_row, subject_field}
-use Rattle.desk_pages.specs.Ask.{text_field}
-use Rattle.desk_pages.specs.New.{crumbs, new_content, new_markup, new_page, title}
-use Rattle.desk_pages.specs.Pieces.{chosen}
-use Rattle.desk_pages.proofs.Frames.{bottom_shows, top_shows}
-use Rattle.desk_pages.proofs.Tables.{chosen_shows, nothing_shows}
+use Rattle.desk_pages.specs.declared.markup.ask.TheConstants.{ASK, ASK_END}
+use Rattle.desk_pages.specs.declared.markup.new.TheConstants.{NEW_TOP}
+use Rattle.desk_pages.specs.declared.new.TheConstants.{TITLE}
+use Rattle.desk_pages.proofs.Frames.{same_bottom, same_top}
+use Rattle.desk_pages.proofs.Tables.{filled_alike, same_choice}
 
-subject_shows : (queue subject : List ℕ)
-    → Shows (subject_field queue subject) (markup_of (subject_field [] []))
-unfolding subject_field
-subject_shows queue subject = shows _ _ refl refl
+-- what is told of each tells how many there are
+pub as_many : {X : Type 0} {Y : Type 0} {F : Type 0} (told : X → F) (tells : Y → F) (xs : List X)
+    (ys : List Y) → map told xs ≡ map tells ys → length xs ≡ length ys
+as_many told tells [] [] same = refl
+as_many told tells [] (y ∷ ys) same = absurd (cc)
+as_many told tells (x ∷ xs) [] same = absurd (cc)
+as_many told tells (x ∷ xs) (y ∷ ys) same =
+    let tail : map told xs ≡ map tells ys = cc in
+    let fewer : length xs ≡ length ys = as_many told tells xs ys tail in
+    omega (arith, fewer)
 
-text_shows : (text : List ℕ) → Shows (text_field text) (markup_of (text_field []))
-unfolding text_field
-text_shows text = shows _ _ refl refl
+pub same_ask : (queue another caller other subject line text words requestors persons usual first
+    : List ℕ)
+    (statuses names : List (List ℕ)) → usual_told usual statuses ≡ usual_told first names
+    → SameMarkup (ask queue caller subject text requestors usual statuses)
+    (ask another other line words persons first names)
+unfolding through
+same_ask queue another caller other subject line text words requestors persons usual first
+    statuses names same =
+    let any = filled_alike statuses names
+    (as_many (λ status. bytes_eq status usual) (λ status. bytes_eq status first) statuses names
+    same) in
+    same_both (same_flags ASK.now refl _ _ _ _ (ap (λ flag. flag ∷ []) any))
+    (same_both (same_rows (status_row usual) (status_row first)
+    (λ status. bytes_eq status usual) (λ status. bytes_eq status first)
+    (λ status name. same_choice _ _ status name) statuses names same)
+    (same_flags ASK_END.now refl _ _ _ _ (ap (λ flag. flag ∷ []) any)))
 
-requestors_show : (requestors caller : List ℕ)
-    → Shows (requestors_field requestors caller) (markup_of (requestors_field [] []))
-unfolding requestors_field
-requestors_show requestors caller = shows _ _ refl refl
-
-status_field_shows : Shows status_field (markup_of status_field)
-unfolding status_field
-status_field_shows = shows _ _ refl refl
-
-status_end_shows : Shows status_end (markup_of status_end)
-unfolding status_end
-status_end_shows = shows _ _ refl refl
-
-statuses_show : (usual : List ℕ) (statuses : List (List ℕ))
-    → Shows (status_part usual statuses) (status_markup usual statuses)
-statuses_show usual [] = nothing_shows
-statuses_show usual (status ∷ statuses) =
-    both _ _ _ _ status_field_shows
-    (both _ _ _ _
-    (each_shows (status_row usual) (λ s. markup_of (chosen (bytes_eq s usual) []))
-    (λ s. chosen_shows (bytes_eq s usual) s) (status ∷ statuses))
-    status_end_shows)
-
-ask_end_shows : Shows ask_end (markup_of ask_end)
-unfolding ask_end
-ask_end_shows = shows _ _ refl refl
-
-pub ask_shows : (queue caller subject text requestors usual : List ℕ) (statuses : List (List ℕ))
-    → Shows (ask queue caller subject text requestors usual statuses) (ask_markup usual statuses)
-ask_shows queue caller subject text requestors usual statuses =
-    both _ _ _ _ (subject_shows queue subject)
-    (both _ _ _ _ (text_shows text)
-    (both _ _ _ _ (requestors_show requestors caller)
-    (both _ _ _ _ (statuses_show usual statuses) ask_end_shows)))
-
-crumbs_show : (queue : List ℕ) → Shows (crumbs queue) (markup_of (crumbs []))
-unfolding crumbs
-crumbs_show queue = shows _ _ refl refl
-
-pub new_has : (queue caller : List ℕ) (moment : ℕ) (usual : List ℕ) (statuses : List (List ℕ))
-    → HasMarkup (new_page queue caller moment usual statuses) (new_markup usual statuses)
-unfolding new_content
-new_has queue caller moment usual statuses = has_markup _ _
-    (both _ _ _ _ (top_shows title Elsewhere caller)
-    (both _ _ _ _
-    (both _ _ _ _ (crumbs_show queue) (ask_shows queue caller [] [] [] usual statuses))
-    (bottom_shows moment)))
+pub new_same : (queue another caller other : List ℕ) (moment later : ℕ) (usual first : List ℕ)
+    (statuses names : List (List ℕ)) → usual_told usual statuses ≡ usual_told first names
+    → SameMarkup (new_page queue caller moment usual statuses) (new_page another other later first
+    names)
+unfolding new_top through
+new_same queue another caller other moment later usual first statuses names same =
+    same_both (same_top TITLE.now TITLE.now Elsewhere caller other)
+    (same_both (same_filled NEW_TOP.now refl _ _ _)
+    (same_both (same_ask queue another caller other [] [] [] [] [] [] usual first statuses names
+    same)
+    (same_bottom moment later)))

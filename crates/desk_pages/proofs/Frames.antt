@@ -1,55 +1,25 @@
--- What stands above and below each page, and the markup that is read in it.
-use Rattle.std.proofs.Common.{ℕ, List, [], refl}
-use Rattle.page_core.specs.Markup.{markup_of}
-use Rattle.page_core.proofs.Shows.{Shows, both, shows}
+-- The markup of what stands above and below each page.
+use Rattle.std.proofs.Common.{ℕ, List, refl}
+use Rattle.page_core.specs.Markup.{SameMarkup}
+use Rattle.page_core.specs.Template.{through}
+use Rattle.page_core.proofs.Same.{same_filled}
+use Rattle.desk_pages.specs.Frame.{bare_bottom, bare_top, bottom, top}
 use Rattle.desk_pages.specs.declared.frame.Place.{Place}
-use Rattle.desk_pages.specs.declared.frame.Place.TheVariants.{Home, Find, Late, Workload, Elsewhere}
-use Rattle.desk_pages.specs.Frame.{account, bare_foot, bare_head, bottom, bottom_markup, close, foot}
-use Rattle.desk_pages.specs.Frame.{head, is_find, is_home, is_late, is_workload, places, top, top_markup}
-use Rattle.desk_pages.specs.Pieces.{time, word}
+use Rattle.desk_pages.specs.declared.markup.frame.TheConstants.{BARE_BOTTOM, BARE_TOP, BOTTOM, TOP}
 
-head_shows : (title : List ℕ) → Shows (head title) (markup_of (head []))
-unfolding head
-head_shows title = shows _ _ refl refl
+pub same_top : (title other : List ℕ) (at : Place) (caller another : List ℕ)
+    → SameMarkup (top title at caller) (top other at another)
+unfolding top through
+same_top title other at caller another = same_filled TOP.now refl _ _ _
 
-places_show : (at : Place) → Shows (places (is_home at) (is_find at) (is_late at) (is_workload at))
-    (markup_of (places (is_home at) (is_find at) (is_late at) (is_workload at)))
-unfolding places word
-places_show Home = shows _ _ refl refl
-places_show Find = shows _ _ refl refl
-places_show Late = shows _ _ refl refl
-places_show Workload = shows _ _ refl refl
-places_show Elsewhere = shows _ _ refl refl
+pub same_bottom : (moment later : ℕ) → SameMarkup (bottom moment) (bottom later)
+unfolding bottom through
+same_bottom moment later = same_filled BOTTOM.now refl _ _ _
 
-account_shows : (caller : List ℕ) → Shows (account caller) (markup_of (account []))
-unfolding account
-account_shows caller = shows _ _ refl refl
+pub same_bare_top : (title other : List ℕ) → SameMarkup (bare_top title) (bare_top other)
+unfolding bare_top through
+same_bare_top title other = same_filled BARE_TOP.now refl _ _ _
 
-pub top_shows : (title : List ℕ) (at : Place) (caller : List ℕ)
-    → Shows (top title at caller) (top_markup at)
-top_shows title at caller =
-    both _ _ _ _ (head_shows title) (both _ _ _ _ (places_show at) (account_shows caller))
-
-foot_shows : Shows foot (markup_of foot)
-unfolding foot
-foot_shows = shows _ _ refl refl
-
-pub time_shows : (day clock : List ℕ) → Shows (time day clock) (markup_of (time [] []))
-unfolding time
-time_shows day clock = shows _ _ refl refl
-
-close_shows : Shows close (markup_of close)
-unfolding close
-close_shows = shows _ _ refl refl
-
-pub bottom_shows : (moment : ℕ) → Shows (bottom moment) bottom_markup
-bottom_shows moment =
-    both _ _ _ _ foot_shows (both _ _ _ _ (time_shows _ _) close_shows)
-
-pub bare_head_shows : (title : List ℕ) → Shows (bare_head title) (markup_of (bare_head []))
-unfolding bare_head
-bare_head_shows title = shows _ _ refl refl
-
-pub bare_foot_shows : Shows bare_foot (markup_of bare_foot)
-unfolding bare_foot
-bare_foot_shows = shows _ _ refl refl
+pub same_bare_bottom : SameMarkup bare_bottom bare_bottom
+unfolding bare_bottom through
+same_bare_bottom = same_filled BARE_BOTTOM.now refl _ _ _

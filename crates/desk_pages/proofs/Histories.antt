@@ -1,79 +1,60 @@
 -- The markup of the history of a request.
-use Rattle.std.proofs.Common.{ℕ, List, [], decimal, refl}
+use Rattle.std.proofs.Common.{◌≡◌, ℕ, List, refl, subst}
 use Rattle.desk_model.specs.declared.rows.Entry.{Entry}
 use Rattle.desk_model.specs.declared.rows.EntryKind.{EntryKind}
 use Rattle.desk_model.specs.declared.rows.EntryKind.TheVariants as kind
-use Rattle.desk_texts.specs.Texts.History.{kind_word}
-use Rattle.page_core.specs.Markup.{markup_of}
-use Rattle.page_core.proofs.Shows.{Shows, both, each_shows, shows}
-use Rattle.desk_pages.specs.History.{changed, entry, entry_close, entry_markup, entry_open, filed}
-use Rattle.desk_pages.specs.History.{history, history_close, history_markup, history_open, linked}
-use Rattle.desk_pages.specs.History.{moment_close, telling, text_of, told_close, watched, written}
-use Rattle.desk_pages.specs.History.{wrote}
-use Rattle.desk_pages.proofs.Frames.{time_shows}
+use Rattle.page_core.specs.Markup.{SameMarkup}
+use Rattle.page_core.specs.Template.{through}
+use Rattle.page_core.proofs.Same.{same_both, same_filled, same_none, same_rows}
+use Rattle.desk_pages.specs.History.{entry, entry_moment, head, history, kinds_told, telling}
+use Rattle.desk_pages.specs.History.{text_of}
+use Rattle.desk_pages.specs.declared.markup.history.TheConstants as markup
 
-open_shows : Shows history_open (markup_of history_open)
-unfolding history_open
-open_shows = shows _ _ refl refl
+same_head : (e f : Entry) → SameMarkup (head e) (head f)
+unfolding head through
+same_head e f = same_filled markup.ENTRY.now refl _ _ _
 
-close_shows : Shows history_close (markup_of history_close)
-unfolding history_close
-close_shows = shows _ _ refl refl
+same_telling : (k : EntryKind) (head other body text : List ℕ)
+    → SameMarkup (telling k head body) (telling k other text)
+unfolding telling through
+same_telling kind.Create head other body text = same_filled markup.FILED.now refl _ _ _
+same_telling kind.Status head other body text = same_filled markup.MOVED.now refl _ _ _
+same_telling kind.Owner head other body text = same_filled markup.OWNER_CHANGED.now refl _ _ _
+same_telling kind.Reply head other body text = same_filled markup.REPLIED.now refl _ _ _
+same_telling kind.Comment head other body text = same_filled markup.COMMENTED.now refl _ _ _
+same_telling kind.Watch head other body text = same_filled markup.PUT_IN.now refl _ _ _
+same_telling kind.Unwatch head other body text = same_filled markup.TAKEN_OUT.now refl _ _ _
+same_telling kind.Link head other body text = same_filled markup.LINKED.now refl _ _ _
+same_telling kind.Unlink head other body text = same_filled markup.UNLINKED.now refl _ _ _
+same_telling kind.Level head other body text = same_filled markup.LEVEL_CHANGED.now refl _ _ _
 
-entry_open_shows : (number word actor : List ℕ)
-    → Shows (entry_open number word actor) (markup_of (entry_open [] [] []))
-unfolding entry_open
-entry_open_shows number word actor = shows _ _ refl refl
+same_moment : (moment later : ℕ) → SameMarkup (entry_moment moment) (entry_moment later)
+unfolding entry_moment through
+same_moment moment later = same_filled markup.ENTRY_TIME.now refl _ _ _
 
-telling_shows : (k : EntryKind) (head body : List ℕ)
-    → Shows (telling k head body) (markup_of (telling k [] []))
-unfolding changed filed linked watched wrote
-telling_shows kind.Create head body = shows _ _ refl refl
-telling_shows kind.Status head body = shows _ _ refl refl
-telling_shows kind.Owner head body = shows _ _ refl refl
-telling_shows kind.Reply head body = shows _ _ refl refl
-telling_shows kind.Comment head body = shows _ _ refl refl
-telling_shows kind.Watch head body = shows _ _ refl refl
-telling_shows kind.Unwatch head body = shows _ _ refl refl
-telling_shows kind.Link head body = shows _ _ refl refl
-telling_shows kind.Unlink head body = shows _ _ refl refl
-telling_shows kind.Level head body = shows _ _ refl refl
+same_text : (k : EntryKind) (body text : List ℕ) → SameMarkup (text_of k body) (text_of k text)
+unfolding text_of through
+same_text kind.Reply body text = same_filled markup.WRITTEN.now refl _ _ _
+same_text kind.Comment body text = same_filled markup.WRITTEN.now refl _ _ _
+same_text _ body text = same_none
 
-told_close_shows : Shows told_close (markup_of told_close)
-unfolding told_close
-told_close_shows = shows _ _ refl refl
+same_entry : (e f : Entry) → e.kind ≡ f.kind → SameMarkup (entry e) (entry f)
+unfolding entry through
+same_entry e f same =
+    same_both (same_head e f)
+    (same_both
+    (subst (λ k. SameMarkup (telling e.kind e.head e.body) (telling k f.head f.body)) same
+    (same_telling e.kind e.head f.head e.body f.body))
+    (same_both (same_moment e.moment f.moment)
+    (same_both
+    (subst (λ k. SameMarkup (text_of e.kind e.body) (text_of k f.body)) same
+    (same_text e.kind e.body f.body))
+    (same_filled markup.ENTRY_END.now refl _ _ _))))
 
-moment_close_shows : Shows moment_close (markup_of moment_close)
-unfolding moment_close
-moment_close_shows = shows _ _ refl refl
-
-text_shows : (k : EntryKind) (body : List ℕ) → Shows (text_of k body) (markup_of (text_of k []))
-unfolding written
-text_shows kind.Create body = shows _ _ refl refl
-text_shows kind.Status body = shows _ _ refl refl
-text_shows kind.Owner body = shows _ _ refl refl
-text_shows kind.Reply body = shows _ _ refl refl
-text_shows kind.Comment body = shows _ _ refl refl
-text_shows kind.Watch body = shows _ _ refl refl
-text_shows kind.Unwatch body = shows _ _ refl refl
-text_shows kind.Link body = shows _ _ refl refl
-text_shows kind.Unlink body = shows _ _ refl refl
-text_shows kind.Level body = shows _ _ refl refl
-
-entry_close_shows : Shows entry_close (markup_of entry_close)
-unfolding entry_close
-entry_close_shows = shows _ _ refl refl
-
-entry_shows : (e : Entry) → Shows (entry e) (entry_markup e.kind)
-entry_shows e =
-    both _ _ _ _ (entry_open_shows (decimal e.number) (kind_word e.kind) e.actor)
-    (both _ _ _ _ (telling_shows e.kind e.head e.body)
-    (both _ _ _ _ told_close_shows
-    (both _ _ _ _ (time_shows _ _)
-    (both _ _ _ _ moment_close_shows
-    (both _ _ _ _ (text_shows e.kind e.body) entry_close_shows)))))
-
-pub history_shows : (entries : List Entry) → Shows (history entries) (history_markup entries)
-history_shows entries =
-    both _ _ _ _ open_shows
-    (both _ _ _ _ (each_shows entry (λ e. entry_markup e.kind) entry_shows entries) close_shows)
+pub same_history : (entries others : List Entry) → kinds_told entries ≡ kinds_told others
+    → SameMarkup (history entries) (history others)
+unfolding through
+same_history entries others same =
+    same_both (same_filled markup.HISTORY_TOP.now refl _ _ _)
+    (same_both (same_rows entry entry (λ e. e.kind) (λ e. e.kind) same_entry entries others same)
+    (same_filled markup.HISTORY_END.now refl _ _ _))

@@ -1,110 +1,90 @@
 -- The markup of the first page.
-use Rattle.std.proofs.Common.{ℕ, Bool, true, false, List, [], codes, decimal, unwrap_or, refl}
-use Rattle.std.specs.List.{flat_map}
+use Rattle.std.proofs.Common.{◌≡◌, ℕ, false, List, [], ◌∷◌, codes, length, map, refl, ap}
 use Rattle.find_core.specs.declared.loads.QueueLoad.{QueueLoad}
 use Rattle.find_core.specs.declared.search.Findings.{Findings}
-use Rattle.page_core.specs.Markup.{HasMarkup, markup_of}
-use Rattle.page_core.proofs.Shows.{Shows, both, each_shows, has_markup, shows}
-use Rattle.desk_pages.specs.declared.frame.Place.TheVariants as place
-use Rattle.desk_pages.specs.Home.{asked_query, asked_title, choices_markup, free_query, free_title}
-use Rattle.desk_pages.specs.Home.{home_content, home_end, home_markup, home_page, home_top}
-use Rattle.desk_pages.specs.Home.{level_choice, own_lists}
-use Rattle.desk_pages.specs.Home.{opening_form, opening_form_markup, own_query, own_title}
-use Rattle.desk_pages.specs.Home.{queue_cells, queue_form, queue_row, queue_row_markup, queues}
-use Rattle.desk_pages.specs.Home.{queues_end, queues_head, queues_markup, rest_link, section}
-use Rattle.desk_pages.specs.Home.{section_markup, section_top}
-use Rattle.desk_pages.specs.Pieces.{choice, dash, word}
+use Rattle.page_core.specs.Markup.{SameMarkup}
+use Rattle.page_core.specs.Template.{through}
+use Rattle.page_core.proofs.Same.{same_both, same_count, same_filled, same_flags, same_rows}
+use Rattle.desk_pages.specs.Home.{choices, home_page, home_told, lists, opening, queue_row, queues}
+use Rattle.desk_pages.specs.Home.{section, section_told}
+use Rattle.desk_pages.specs.Pieces.{choice}
+use Rattle.desk_pages.specs.Rows.{rows_told}
 use Rattle.desk_pages.specs.Workload.{is_any}
-use Rattle.desk_pages.proofs.Frames.{bottom_shows, top_shows}
-use Rattle.desk_pages.proofs.Listed.{table_shows}
-use Rattle.desk_pages.proofs.Tables.{if_shows}
+use Rattle.desk_pages.specs.declared.frame.Place.TheVariants.{Home}
+use Rattle.desk_pages.specs.declared.markup.home.TheConstants.{HOME_TOP, OPENING_END}
+use Rattle.desk_pages.specs.declared.markup.home.TheConstants.{OPENING_LEVELS, OPENING_TOP}
+use Rattle.desk_pages.specs.declared.markup.home.TheConstants.{QUEUE_ROW, QUEUES_END, QUEUES_TOP}
+use Rattle.desk_pages.specs.declared.markup.home.TheConstants.{REST, SECTION}
+use Rattle.desk_pages.proofs.Frames.{same_bottom, same_top}
+use Rattle.desk_pages.proofs.Listed.{same_table}
+use Rattle.desk_pages.proofs.Tables.{same_choice, same_if}
 
-home_top_shows : Shows home_top (markup_of home_top)
-unfolding home_top
-home_top_shows = shows _ _ refl refl
+same_section : (title other query asked caller another : List ℕ) (moment later : ℕ)
+    (found more : Findings) → section_told moment found ≡ section_told later more
+    → SameMarkup (section title query caller moment found) (section other asked another later more)
+unfolding section through
+same_section title other query asked caller another moment later found more same =
+    same_both (same_filled SECTION.now refl _ _ _)
+    (same_if (is_any found.count) (is_any more.count) (rows_told moment found.rows)
+    (rows_told later more.rows) _ _ same
+    (λ rows. same_both (same_table title other caller another moment later found.rows more.rows
+    rows)
+    (same_filled REST.now refl _ _ _)))
 
-section_top_shows : (title : List ℕ) (count : List ℕ)
-    → Shows (section_top title count) (markup_of (section_top [] []))
-unfolding section_top
-section_top_shows title count = shows _ _ refl refl
+same_lists : (caller other : List ℕ) (moment later : ℕ) (own owned asked sought : Findings)
+    → section_told moment own ≡ section_told later owned
+    → section_told moment asked ≡ section_told later sought
+    → SameMarkup (lists caller moment own asked) (lists other later owned sought)
+unfolding lists through
+same_lists caller other moment later own owned asked sought first second =
+    same_both (same_filled HOME_TOP.now refl _ _ _)
+    (same_both (same_section _ _ _ _ caller other moment later own owned first)
+    (same_section _ _ _ _ caller other moment later asked sought second))
 
-rest_link_shows : (query : List ℕ)
-    → Shows (rest_link query) (markup_of (rest_link []))
-unfolding rest_link
-rest_link_shows query = shows _ _ refl refl
+same_queue_row : (load other : QueueLoad) → is_any load.late ≡ is_any other.late
+    → SameMarkup (queue_row load) (queue_row other)
+unfolding queue_row through
+same_queue_row load other same =
+    same_flags QUEUE_ROW.now refl _ _ _ _ (ap (λ flag. flag ∷ []) same)
 
-queues_head_shows : Shows queues_head (markup_of queues_head)
-unfolding queues_head
-queues_head_shows = shows _ _ refl refl
+same_queues : (loads others : List QueueLoad)
+    → map (λ load. is_any load.late) loads ≡ map (λ load. is_any load.late) others
+    → SameMarkup (queues loads) (queues others)
+unfolding queues through
+same_queues loads others same =
+    same_both (same_filled QUEUES_TOP.now refl _ _ _)
+    (same_both (same_rows queue_row queue_row (λ load. is_any load.late) (λ load. is_any load.late)
+    same_queue_row loads others same) (same_filled QUEUES_END.now refl _ _ _))
 
-queue_cells_shows : (name : List ℕ) (count : List ℕ) (late : List ℕ) (is_late : Bool) (level : List ℕ)
-    → Shows (queue_cells name count late is_late level) (markup_of (queue_cells [] [] [] is_late []))
-unfolding queue_cells word
-queue_cells_shows name count late true level = shows _ _ refl refl
-queue_cells_shows name count late false level = shows _ _ refl refl
+same_choices : (names others : List (List ℕ)) → length names ≡ length others
+    → SameMarkup (choices names) (choices others)
+same_choices names others many =
+    same_count (choice false) (choice false) (λ name other. same_choice false false name other refl)
+    names others many
 
-queues_end_shows : Shows queues_end (markup_of queues_end)
-unfolding queues_end
-queues_end_shows = shows _ _ refl refl
+same_opening : (lifecycles others levels more : List (List ℕ)) → length lifecycles ≡ length others
+    → length levels ≡ length more → SameMarkup (opening lifecycles levels) (opening others more)
+unfolding opening through
+same_opening lifecycles others levels more first second =
+    same_both (same_filled OPENING_TOP.now refl _ _ _)
+    (same_both (same_choices lifecycles others first)
+    (same_both (same_filled OPENING_LEVELS.now refl _ _ _)
+    (same_both (same_choices levels more second) (same_filled OPENING_END.now refl _ _ _))))
 
-queue_form_shows : Shows queue_form (markup_of queue_form)
-unfolding queue_form
-queue_form_shows = shows _ _ refl refl
-
-level_choice_shows : Shows level_choice (markup_of level_choice)
-unfolding level_choice
-level_choice_shows = shows _ _ refl refl
-
-home_end_shows : Shows home_end (markup_of home_end)
-unfolding home_end
-home_end_shows = shows _ _ refl refl
-
-section_shows : (title query caller : List ℕ) (moment : ℕ) (found : Findings)
-    → Shows (section title query caller moment found) (section_markup moment found)
-unfolding section
-section_shows title query caller moment found =
-    both _ _ _ _ (section_top_shows title (decimal found.count))
-    (if_shows (is_any found.count) _ _
-    (both _ _ _ _ (table_shows title caller moment found.rows) (rest_link_shows query)))
-
-row_shows : (load : QueueLoad) → Shows (queue_row load) (queue_row_markup load)
-row_shows load =
-    queue_cells_shows load.queue.name (decimal load.«open») (decimal load.late) (is_any load.late)
-    (unwrap_or load.queue.level dash)
-
-queues_show : (loads : List QueueLoad) → Shows (queues loads) (queues_markup loads)
-unfolding queues
-queues_show loads =
-    both _ _ _ _ queues_head_shows
-    (both _ _ _ _ (each_shows queue_row queue_row_markup row_shows loads) queues_end_shows)
-
-choice_shows : (name : List ℕ) → Shows (choice name) (markup_of (choice []))
-unfolding choice
-choice_shows name = shows _ _ refl refl
-
-choices_show : (names : List (List ℕ)) → Shows (flat_map choice names) (choices_markup names)
-choices_show names = each_shows choice (λ name. markup_of (choice [])) choice_shows names
-
-form_shows : (lifecycles levels : List (List ℕ))
-    → Shows (opening_form lifecycles levels) (opening_form_markup lifecycles levels)
-unfolding opening_form
-form_shows lifecycles levels =
-    both _ _ _ _ queue_form_shows (both _ _ _ _ (choices_show lifecycles)
-    (both _ _ _ _ level_choice_shows (both _ _ _ _ (choices_show levels) home_end_shows)))
-
-pub home_has : (caller : List ℕ) (moment : ℕ) (own asked : Findings) (loads : List QueueLoad)
-    (free : Findings) (lifecycles levels : List (List ℕ))
-    → HasMarkup (home_page caller moment own asked loads free lifecycles levels)
-    (home_markup moment own asked loads free lifecycles levels)
-unfolding home_content own_lists
-home_has caller moment own asked loads free lifecycles levels = has_markup _ _
-    (both _ _ _ _ (top_shows (codes "Home") place.Home caller)
-    (both _ _ _ _
-    (both _ _ _ _ home_top_shows
-    (both _ _ _ _
-    (both _ _ _ _ (section_shows own_title own_query caller moment own)
-    (section_shows asked_title asked_query caller moment asked))
-    (both _ _ _ _ (queues_show loads)
-    (both _ _ _ _ (section_shows free_title free_query caller moment free)
-    (form_shows lifecycles levels)))))
-    (bottom_shows moment)))
+pub home_same : (caller other : List ℕ) (moment later : ℕ) (own owned asked sought : Findings)
+    (loads others : List QueueLoad) (free unowned : Findings)
+    (lifecycles cycles levels more : List (List ℕ))
+    → home_told moment own asked loads free lifecycles levels
+    ≡ home_told later owned sought others unowned cycles more
+    → SameMarkup (home_page caller moment own asked loads free lifecycles levels)
+    (home_page other later owned sought others unowned cycles more)
+home_same caller other moment later own owned asked sought loads others free unowned lifecycles
+    cycles levels more same =
+    same_both (same_top (codes "Home") (codes "Home") Home caller other)
+    (same_both (same_lists caller other moment later own owned asked sought
+    (ap (λ told. told.own) same) (ap (λ told. told.asked) same))
+    (same_both (same_queues loads others (ap (λ told. told.late) same))
+    (same_both (same_section _ _ _ _ caller other moment later free unowned (ap (λ told.
+    told.free) same))
+    (same_both (same_opening lifecycles cycles levels more (ap (λ told. told.lifecycles) same)
+    (ap (λ told. told.levels) same)) (same_bottom moment later)))))

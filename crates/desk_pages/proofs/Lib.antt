@@ -1,3 +1,5 @@
+pub mod Afterwards
+mod Examples
 pub mod Asks
 pub mod Changes
 pub mod Finds
@@ -14,7 +16,5 @@ pub mod Offers
 pub mod Persons
 pub mod Refusals
 pub mod Requests
-pub mod Searches
-pub mod SignIns
 pub mod Tables
 pub mod Writes

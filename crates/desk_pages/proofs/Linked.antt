@@ -1,101 +1,109 @@
--- The markup of the persons of a request and of the requests that it is linked with.
-use Rattle.std.proofs.Common.{ℕ, Bool, true, false, List, [], ◌∷◌, codes, decimal, refl}
-use Rattle.desk_model.specs.declared.answer.Links.{Links}
+-- The markup of the persons of a request, and of the requests that it is linked with.
+use Rattle.std.proofs.Common.{◌≡◌, ℕ, Bool, true, List, [], ◌∷◌, length, refl, ap}
 use Rattle.desk_model.specs.declared.answer.Shown.{Shown}
-use Rattle.page_core.specs.Markup.{markup_of}
-use Rattle.page_core.proofs.Shows.{Shows, both, each_shows, shows}
-use Rattle.desk_pages.specs.Lists.{links_markup, links_told, list_close, list_open, other}
-use Rattle.desk_pages.specs.Lists.{other_markup, other_row, others_if_any, others_markup, out_button}
-use Rattle.desk_pages.specs.Lists.{person, person_markup, person_row, persons, persons_if_any}
-use Rattle.desk_pages.specs.Lists.{persons_if_any_markup, persons_markup, roles, roles_markup}
-use Rattle.desk_pages.specs.Lists.{take_out, unlink, unlink_button}
+use Rattle.page_core.specs.Markup.{SameMarkup}
+use Rattle.page_core.specs.Template.{through}
+use Rattle.page_core.proofs.Same.{same_both, same_count, same_flags}
+use Rattle.desk_pages.specs.Lists.{link_row, links_told, many_told, others}
+use Rattle.desk_pages.specs.Lists.{person_row, persons, roles}
+use Rattle.desk_pages.specs.declared.markup.lists.TheConstants.{LINK_ROW, LIST_END, LIST_TOP}
+use Rattle.desk_pages.specs.declared.markup.lists.TheConstants.{PERSON_ROW}
+use Rattle.desk_pages.proofs.Tables.{filled_alike}
 
-open_shows : (heading : List ℕ) → Shows (list_open heading) (markup_of (list_open []))
-unfolding list_open
-open_shows heading = shows _ _ refl refl
+same_person : (buttons now : Bool) (id another : ℕ) (role post : List ℕ) → buttons ≡ now
+    → (name other : List ℕ)
+    → SameMarkup (person_row buttons id role name) (person_row now another post other)
+unfolding person_row through
+same_person buttons now id another role post same name other =
+    same_flags PERSON_ROW.now refl _ _ _ _ (ap (λ flag. flag ∷ []) same)
 
-close_shows : Shows list_close (markup_of list_close)
-unfolding list_close
-close_shows = shows _ _ refl refl
+same_persons : (headed known buttons now : Bool) (id another : ℕ) (role post heading title : List ℕ)
+    (names others : List (List ℕ)) → headed ≡ known → buttons ≡ now → length names ≡ length others
+    → SameMarkup (persons headed buttons id role heading names)
+    (persons known now another post title others)
+unfolding persons through
+same_persons headed known buttons now id another role post heading title names others head button
+    many =
+    same_both (same_flags LIST_TOP.now refl _ _ _ _ (ap (λ flag. flag ∷ []) head))
+    (same_both (same_count (person_row buttons id role) (person_row now another post)
+    (same_person buttons now id another role post button) names others many)
+    (same_flags LIST_END.now refl _ _ _ _ (ap (λ flag. flag ∷ []) head)))
 
-person_shows : (name : List ℕ) → Shows (person name) (markup_of (person []))
-unfolding person
-person_shows name = shows _ _ refl refl
+same_link : (buttons now : Bool) (id another : ℕ) (link kind : List ℕ) → buttons ≡ now
+    → (n m : ℕ) → SameMarkup (link_row buttons id link n) (link_row now another kind m)
+unfolding link_row through
+same_link buttons now id another link kind same n m =
+    same_flags LINK_ROW.now refl _ _ _ _ (ap (λ flag. flag ∷ []) same)
 
-out_shows : (buttons : Bool) (id role name : List ℕ)
-    → Shows (out_button buttons id role name) (markup_of (out_button buttons [] [] []))
-unfolding take_out
-out_shows true id role name = shows _ _ refl refl
-out_shows false id role name = shows _ _ refl refl
+same_others : (buttons now : Bool) (id another : ℕ) (link heading : List ℕ) (ns ms : List ℕ)
+    → buttons ≡ now → length ns ≡ length ms
+    → SameMarkup (others buttons id link heading ns) (others now another link heading ms)
+unfolding others through
+same_others buttons now id another link heading ns ms button many =
+    same_both (same_flags LIST_TOP.now refl _ _ _ _ (ap (λ flag. flag ∷ []) (filled_alike ns ms
+    many)))
+    (same_both (same_count (link_row buttons id link) (link_row now another link)
+    (same_link buttons now id another link link button) ns ms many)
+    (same_flags LIST_END.now refl _ _ _ _ (ap (λ flag. flag ∷ []) (filled_alike ns ms many))))
 
-person_row_shows : (buttons : Bool) (id role name : List ℕ)
-    → Shows (person_row buttons id role name) (person_markup buttons)
-person_row_shows buttons id role name =
-    both _ _ _ _ (person_shows name) (out_shows buttons id role name)
+-- as many in each list
+pub record AsMany (shown other : Shown) : Type 0 where
+  pub requestors : length shown.requestors ≡ length other.requestors
+  pub cc : length shown.cc ≡ length other.cc
+  pub admin_cc : length shown.admin_cc ≡ length other.admin_cc
+  pub depends_on : length shown.links.depends_on ≡ length other.links.depends_on
+  pub depended_on_by : length shown.links.depended_on_by ≡ length other.links.depended_on_by
+  pub member_of : length shown.links.member_of ≡ length other.links.member_of
+  pub has_member : length shown.links.has_member ≡ length other.links.has_member
+  pub refers_to : length shown.links.refers_to ≡ length other.links.refers_to
+  pub referred_to_by : length shown.links.referred_to_by ≡ length other.links.referred_to_by
 
-persons_show : (buttons : Bool) (id role heading : List ℕ) (names : List (List ℕ))
-    → Shows (persons buttons id role heading names) (persons_markup buttons names)
-persons_show buttons id role heading names =
-    both _ _ _ _ (open_shows heading)
-    (both _ _ _ _
-    (each_shows (person_row buttons id role) (λ name. person_markup buttons)
-    (person_row_shows buttons id role) names)
-    close_shows)
+pub as_many_in : (shown other : Shown) → many_told shown ≡ many_told other → AsMany shown other
+as_many_in shown other same =
+    record {
+      requestors = cc;
+      cc = cc;
+      admin_cc = cc;
+      depends_on = cc;
+      depended_on_by = cc;
+      member_of = cc;
+      has_member = cc;
+      refers_to = cc;
+      referred_to_by = cc;
+    }
 
-nothing_shows : Shows [] []
-nothing_shows = shows _ _ refl refl
+pub same_roles : (buttons now : Bool) (id another : ℕ) (shown other : Shown) → buttons ≡ now
+    → many_told shown ≡ many_told other
+    → SameMarkup (roles buttons id shown) (roles now another other)
+same_roles buttons now id another shown other button same =
+    let many = as_many_in shown other same in
+    same_both (same_persons true true buttons now id another _ _ _ _ shown.requestors
+    other.requestors
+    refl button many.requestors)
+    (same_both (same_persons _ _ buttons now id another _ _ _ _ shown.cc other.cc
+    (filled_alike shown.cc other.cc many.cc) button many.cc)
+    (same_persons _ _ buttons now id another _ _ _ _ shown.admin_cc other.admin_cc
+    (filled_alike shown.admin_cc other.admin_cc many.admin_cc) button many.admin_cc))
 
-any_persons_show : (buttons : Bool) (id role heading : List ℕ) (names : List (List ℕ))
-    → Shows (persons_if_any buttons id role heading names) (persons_if_any_markup buttons names)
-any_persons_show buttons id role heading [] = nothing_shows
-any_persons_show buttons id role heading (name ∷ names) =
-    persons_show buttons id role heading (name ∷ names)
-
-pub roles_show : (buttons : Bool) (id : List ℕ) (shown : Shown)
-    → Shows (roles buttons id shown) (roles_markup buttons shown)
-roles_show buttons id shown =
-    both _ _ _ _
-    (persons_show buttons id (codes "requestor") (codes "Requestors") shown.requestors)
-    (both _ _ _ _ (any_persons_show buttons id (codes "cc") (codes "Cc") shown.cc)
-    (any_persons_show buttons id (codes "admincc") (codes "AdminCc") shown.admin_cc))
-
-other_shows : (number : List ℕ) → Shows (other number) (markup_of (other []))
-unfolding other
-other_shows number = shows _ _ refl refl
-
-unlink_shows : (buttons : Bool) (id link number : List ℕ)
-    → Shows (unlink_button buttons id link number) (markup_of (unlink_button buttons [] [] []))
-unfolding unlink
-unlink_shows true id link number = shows _ _ refl refl
-unlink_shows false id link number = shows _ _ refl refl
-
-other_row_shows : (buttons : Bool) (id link : List ℕ) (n : ℕ)
-    → Shows (other_row buttons id link n) (other_markup buttons)
-other_row_shows buttons id link n =
-    both _ _ _ _ (other_shows (decimal n)) (unlink_shows buttons id link (decimal n))
-
-others_show : (buttons : Bool) (id link heading : List ℕ) (ns : List ℕ)
-    → Shows (others_if_any buttons id link heading ns) (others_markup buttons ns)
-others_show buttons id link heading [] = nothing_shows
-others_show buttons id link heading (n ∷ ns) =
-    both _ _ _ _ (open_shows heading)
-    (both _ _ _ _
-    (each_shows (other_row buttons id link) (λ m. other_markup buttons)
-    (other_row_shows buttons id link) (n ∷ ns))
-    close_shows)
-
-pub links_show : (buttons : Bool) (id : List ℕ) (links : Links)
-    → Shows (links_told buttons id links) (links_markup buttons links)
-links_show buttons id links =
-    both _ _ _ _
-    (both _ _ _ _
-    (others_show buttons id (codes "DependsOn") (codes "Depends on") links.depends_on)
-    (others_show buttons id (codes "DependedOnBy") (codes "Depended on by") links.depended_on_by))
-    (both _ _ _ _
-    (both _ _ _ _
-    (others_show buttons id (codes "MemberOf") (codes "Member of") links.member_of)
-    (others_show buttons id (codes "HasMember") (codes "Has members") links.has_member))
-    (both _ _ _ _
-    (others_show buttons id (codes "RefersTo") (codes "Refers to") links.refers_to)
-    (others_show buttons id (codes "ReferredToBy") (codes "Referred to by")
-    links.referred_to_by)))
+pub same_links : (buttons now : Bool) (id another : ℕ) (shown other : Shown) → buttons ≡ now
+    → many_told shown ≡ many_told other
+    → SameMarkup (links_told buttons id shown.links) (links_told now another other.links)
+same_links buttons now id another shown other button same =
+    let many = as_many_in shown other same in
+    same_both
+    (same_both
+    (same_others buttons now id another _ _ shown.links.depends_on other.links.depends_on button
+    many.depends_on)
+    (same_others buttons now id another _ _ shown.links.depended_on_by other.links.depended_on_by
+    button many.depended_on_by))
+    (same_both
+    (same_both
+    (same_others buttons now id another _ _ shown.links.member_of other.links.member_of button
+    many.member_of)
+    (same_others buttons now id another _ _ shown.links.has_member other.links.has_member button
+    many.has_member))
+    (same_both
+    (same_others buttons now id another _ _ shown.links.refers_to other.links.refers_to button
+    many.refers_to)
+    (same_others buttons now id another _ _ shown.links.referred_to_by other.links.referred_to_by
+    button many.referred_to_by)))

@@ -1,79 +1,66 @@
--- The markup of a table of requests that were found.
-use Rattle.std.proofs.Common.{ℕ, Bool, true, false, List, [], ◌++◌, codes, decimal, is_none, refl}
-use Rattle.std.specs.List.{flat_map}
-use Rattle.desk_texts.specs.Words.{or_nobody}
+-- The markup of a table of requests.
+use Rattle.std.proofs.Common.{◌≡◌, ◌∙◌, ℕ, Bool, true, false, List, [], ◌∷◌, refl, ap, sym}
 use Rattle.find_core.specs.declared.search.Found.{Found}
-use Rattle.page_core.specs.Markup.{markup_of}
-use Rattle.page_core.proofs.Shows.{Shows, both, each_shows, shows}
-use Rattle.desk_pages.specs.Pieces.{word}
-use Rattle.desk_pages.specs.Rows.{asking, cells, is_late, is_of, late_mark, opening, row, row_end}
-use Rattle.desk_pages.specs.Rows.{row_markup, subject_cell, table, table_head, table_markup}
-use Rattle.desk_pages.specs.Rows.{word_of_class}
-use Rattle.desk_pages.proofs.Frames.{time_shows}
-use Rattle.desk_pages.proofs.Tables.{due_shows, table_end_shows}
+use Rattle.page_core.specs.Markup.{SameMarkup}
+use Rattle.page_core.specs.Template.{filled_from, markup_in, through}
+use Rattle.page_core.proofs.Same.{same_both, same_count, same_filled, same_flags, same_rows}
+use Rattle.page_core.proofs.Same.{same_shape}
+use Rattle.desk_pages.specs.Rows.{asking, cells, row, row_end, row_told, row_top, rows_told, table}
+use Rattle.desk_pages.specs.declared.markup.rows.TheConstants.{ASKING, ROW_CELLS, ROW_END}
+use Rattle.desk_pages.specs.declared.markup.rows.TheConstants.{ROW_TOP, TABLE_TOP}
+use Rattle.desk_pages.proofs.Tables.{same_due, same_table_end}
 
-opening_shows : (state : List ℕ) (mine nobody late : Bool)
-    → Shows (opening state mine nobody late) (codes "<tr class=\"\"><td>")
-unfolding opening word
-opening_shows state true true true = shows _ _ refl refl
-opening_shows state true true false = shows _ _ refl refl
-opening_shows state true false true = shows _ _ refl refl
-opening_shows state true false false = shows _ _ refl refl
-opening_shows state false true true = shows _ _ refl refl
-opening_shows state false true false = shows _ _ refl refl
-opening_shows state false false true = shows _ _ refl refl
-opening_shows state false false false = shows _ _ refl refl
+-- whose it is, and whether it is late, is told in a value alone
+of_whom : (mine nobody late : Bool)
+    → markup_in ROW_TOP.now (mine ∷ nobody ∷ late ∷ []) ≡ markup_in ROW_TOP.now []
+unfolding filled_from markup_in
+of_whom true true true = refl
+of_whom true true false = refl
+of_whom true false true = refl
+of_whom true false false = refl
+of_whom false true true = refl
+of_whom false true false = refl
+of_whom false false true = refl
+of_whom false false false = refl
 
-table_head_shows : (caption : List ℕ)
-    → Shows (table_head caption) (markup_of (table_head []))
-unfolding table_head
-table_head_shows caption = shows _ _ refl refl
+same_row_top : (caller other : List ℕ) (late now : Bool) (found another : Found)
+    → SameMarkup (row_top caller late found) (row_top other now another)
+unfolding row_top through
+same_row_top caller other late now found another =
+    same_shape ROW_TOP.now refl _ _ _ _ (of_whom _ _ _ ∙ sym (of_whom _ _ _))
 
-subject_cell_shows : (id : List ℕ) (subject : List ℕ)
-    → Shows (subject_cell id subject) (markup_of (subject_cell [] []))
-unfolding subject_cell
-subject_cell_shows id subject = shows _ _ refl refl
+same_asking : (person other : List ℕ) → SameMarkup (asking person) (asking other)
+unfolding asking through
+same_asking person other = same_filled ASKING.now refl _ _ _
 
-asking_shows : (person : List ℕ)
-    → Shows (asking person) (markup_of (asking []))
-unfolding asking
-asking_shows person = shows _ _ refl refl
+same_cells : (found another : Found) → SameMarkup (cells found) (cells another)
+unfolding cells through
+same_cells found another = same_filled ROW_CELLS.now refl _ _ _
 
-cells_shows : (queue : List ℕ) (state : List ℕ) (status : List ℕ) (owner : List ℕ)
-    → Shows (cells queue state status owner) (markup_of (cells [] [] [] []))
-unfolding cells
-cells_shows queue state status owner = shows _ _ refl refl
+same_row_end : (late now : Bool) (last another : ℕ) → late ≡ now
+    → SameMarkup (row_end late last) (row_end now another)
+unfolding row_end through
+same_row_end late now last another same =
+    same_flags ROW_END.now refl _ _ _ _ (ap (λ flag. flag ∷ []) same)
 
-late_mark_shows : (late : Bool)
-    → Shows (late_mark late) (markup_of (late_mark late))
-unfolding late_mark word
-late_mark_shows true = shows _ _ refl refl
-late_mark_shows false = shows _ _ refl refl
+same_row : (caller other : List ℕ) (moment later : ℕ) (found another : Found)
+    → row_told moment found ≡ row_told later another
+    → SameMarkup (row caller moment found) (row other later another)
+unfolding row
+same_row caller other moment later found another same =
+    same_both (same_row_top caller other _ _ found another)
+    (same_both
+    (same_count asking asking same_asking found.requestors another.requestors (ap (λ told. told.0)
+    same))
+    (same_both (same_cells found another)
+    (same_both (same_due found.due another.due (ap (λ told. told.1) same))
+    (same_row_end _ _ found.last another.last (ap (λ told. told.2) same)))))
 
-row_end_shows : Shows row_end (markup_of row_end)
-unfolding row_end
-row_end_shows = shows _ _ refl refl
-
-row_shows : (caller : List ℕ) (moment : ℕ) (found : Found)
-    → Shows (row caller moment found) (row_markup moment found)
-row_shows caller moment found =
-    both _ _ _ _
-    (both _ _ _ _
-    (opening_shows (word_of_class found.class) (is_of caller found.owner) (is_none found.owner)
-    (is_late moment found.due))
-    (both _ _ _ _ (subject_cell_shows (decimal found.id) found.subject)
-    (each_shows asking (λ person. markup_of (asking [])) asking_shows found.requestors)))
-    (both _ _ _ _
-    (cells_shows found.queue (word_of_class found.class) found.status (or_nobody found.owner))
-    (both _ _ _ _ (due_shows found.due)
-    (both _ _ _ _ (late_mark_shows (is_late moment found.due))
-    (both _ _ _ _ (time_shows _ _) row_end_shows))))
-
-pub table_shows : (caption caller : List ℕ) (moment : ℕ) (rows : List Found)
-    → Shows (table caption caller moment rows) (table_markup moment rows)
-unfolding table
-table_shows caption caller moment rows =
-    both _ _ _ _ (table_head_shows caption)
-    (both _ _ _ _
-    (each_shows (row caller moment) (row_markup moment) (row_shows caller moment) rows)
-    table_end_shows)
+pub same_table : (caption title caller other : List ℕ) (moment later : ℕ) (rows others : List Found)
+    → rows_told moment rows ≡ rows_told later others
+    → SameMarkup (table caption caller moment rows) (table title other later others)
+unfolding table through
+same_table caption title caller other moment later rows others same =
+    same_both (same_filled TABLE_TOP.now refl _ _ _)
+    (same_both (same_rows (row caller moment) (row other later) (row_told moment) (row_told later)
+    (same_row caller other moment later) rows others same) same_table_end)

@@ -1,79 +1,75 @@
 -- The markup of the page of who has how much to do.
-use Rattle.std.proofs.Common.{ℕ, Bool, true, false, List, [], ◌++◌, codes, decimal, is_none, refl}
+use Rattle.std.proofs.Common.{◌≡◌, ◌∙◌, ℕ, Bool, true, false, List, [], ◌∷◌, codes}
+use Rattle.std.proofs.Common.{zero, suc, ◌+◌, ◌||◌, arith, refl, ap, sym}
+use Rattle.std.proofs.lemmas.Bool.{ne_eqb}
+use Rattle.std.proofs.lemmas.List.Sums.{sum_by-cons}
 use Rattle.desk_model.specs.declared.answer.Load.{Load}
-use Rattle.desk_texts.specs.Texts.Workload.{all_live, all_overdue}
-use Rattle.desk_texts.specs.Words.{or_nobody}
-use Rattle.page_core.specs.Markup.{HasMarkup, markup_of}
-use Rattle.page_core.specs.Page.{Part}
-use Rattle.page_core.proofs.Shows.{Shows, both, each_shows, has_markup, shows}
+use Rattle.desk_texts.specs.Texts.Workload.{all_overdue}
+use Rattle.page_core.specs.Markup.{SameMarkup}
+use Rattle.page_core.specs.Template.{filled_from, markup_in, through}
+use Rattle.page_core.proofs.Same.{same_both, same_filled, same_flags, same_rows, same_shape}
+use Rattle.desk_pages.specs.Workload.{is_any, late_told, load_row, most, total, workload_page}
 use Rattle.desk_pages.specs.declared.frame.Place.TheVariants.{Workload}
-use Rattle.desk_pages.specs.Pieces.{word}
-use Rattle.desk_pages.specs.Rows.{is_of}
-use Rattle.desk_pages.specs.Workload.{bars, is_any, load_cells, load_opening, load_row}
-use Rattle.desk_pages.specs.Workload.{load_row_markup, load_top, load_total, markup_of_load, most}
-use Rattle.desk_pages.specs.Workload.{workload_markup, workload_page}
-use Rattle.desk_pages.proofs.Frames.{bottom_shows, top_shows}
+use Rattle.desk_pages.specs.declared.markup.workload.TheConstants.{LOAD_ROW, LOAD_TOP, LOAD_TOTAL}
+use Rattle.desk_pages.proofs.Frames.{same_bottom, same_top}
 
-opening_shows : (mine nobody : Bool) → Shows (load_opening mine nobody) (codes "<tr class=\"\">")
-unfolding load_opening word
-opening_shows true true = shows _ _ refl refl
-opening_shows true false = shows _ _ refl refl
-opening_shows false true = shows _ _ refl refl
-opening_shows false false = shows _ _ refl refl
+-- whose it is, is told in a value alone
+of_whom : (mine nobody late : Bool)
+    → markup_in LOAD_ROW.now (mine ∷ nobody ∷ late ∷ [])
+    ≡ markup_in LOAD_ROW.now (false ∷ false ∷ late ∷ [])
+unfolding filled_from markup_in
+of_whom true true true = refl
+of_whom true true false = refl
+of_whom true false true = refl
+of_whom true false false = refl
+of_whom false true true = refl
+of_whom false true false = refl
+of_whom false false late = refl
 
-cells_show : (owner live late : List ℕ) (is_late : Bool)
-    → Shows (load_cells owner live is_late late)
-    (codes "<th scope=\"\" class=\"\"></th><td></td><td"
-    ++ (word is_late (codes " class=\"\"") ++ codes "></td>"))
-unfolding load_cells word
-cells_show owner live late true = shows _ _ refl refl
-cells_show owner live late false = shows _ _ refl refl
+same_row : (caller other : List ℕ) (whole scale : ℕ) (load another : Load)
+    → is_any load.overdue ≡ is_any another.overdue
+    → SameMarkup (load_row caller whole load) (load_row other scale another)
+unfolding load_row through
+same_row caller other whole scale load another late =
+    same_shape LOAD_ROW.now refl _ _ _ _
+    (of_whom _ _ _ ∙ ap (λ flag. markup_in LOAD_ROW.now (false ∷ false ∷ flag ∷ [])) late
+    ∙ sym (of_whom _ _ _))
 
-bars_show : (most live late : List ℕ) → Shows (bars most live late)
-    (codes "<td aria-hidden=\"\"><meter max=\"\" value=\"\"></meter>"
-    ++ codes "<meter max=\"\" value=\"\"></meter></td></tr>")
-unfolding bars
-bars_show most live late = shows _ _ refl refl
+same_total : (loads others : List Load) → is_any (all_overdue loads) ≡ is_any (all_overdue others)
+    → SameMarkup (total loads) (total others)
+unfolding total through
+same_total loads others late =
+    same_flags LOAD_TOTAL.now refl _ _ _ _ (ap (λ flag. flag ∷ []) late)
 
--- the same, in the words of the law
-as_told : (late : Bool) (parts : List Part)
-    → Shows parts (codes "<tr class=\"\">"
-    ++ ((codes "<th scope=\"\" class=\"\"></th><td></td><td"
-    ++ (word late (codes " class=\"\"") ++ codes "></td>"))
-    ++ (codes "<td aria-hidden=\"\"><meter max=\"\" value=\"\"></meter>"
-    ++ codes "<meter max=\"\" value=\"\"></meter></td></tr>")))
-    → Shows parts (load_row_markup late)
-unfolding load_row_markup word
-as_told true parts row = row
-as_told false parts row = row
+any_of_two : (a b : ℕ) → is_any (a + b) ≡ (is_any a || is_any b)
+any_of_two zero b = let e : 0 + b ≡ b = omega arith in rw e refl
+any_of_two (suc a) b =
+    rw (ne_eqb (suc a + b) 0 (λ e. omega (arith, e)), ne_eqb (suc a) 0 (λ e. omega (arith, e))) refl
 
-row_shows : (caller : List ℕ) (whole : ℕ) (load : Load)
-    → Shows (load_row caller whole load) (markup_of_load load)
-row_shows caller whole load =
-    as_told (is_any load.overdue) _
-    (both _ _ _ _ (opening_shows (is_of caller load.owner) (is_none load.owner))
-    (both _ _ _ _
-    (cells_show (or_nobody load.owner) (decimal load.live) (decimal load.overdue)
-    (is_any load.overdue))
-    (bars_show (decimal whole) (decimal load.live) (decimal load.overdue))))
+-- anything is late where something of one of them is
+same_sum : (loads others : List Load) → late_told loads ≡ late_told others
+    → is_any (all_overdue loads) ≡ is_any (all_overdue others)
+same_sum [] [] same = refl
+same_sum [] (other ∷ others) same = absurd (cc)
+same_sum (load ∷ loads) [] same = absurd (cc)
+same_sum (load ∷ loads) (other ∷ others) same =
+    let first : is_any load.overdue ≡ is_any other.overdue = cc in
+    let rest : late_told loads ≡ late_told others = cc in
+    ap is_any (sum_by-cons (λ (load : Load). load.overdue) load loads)
+    ∙ any_of_two load.overdue (all_overdue loads)
+    ∙ ap (λ late. is_any load.overdue || late) (same_sum loads others rest)
+    ∙ ap (λ late. late || is_any (all_overdue others)) first
+    ∙ sym (any_of_two other.overdue (all_overdue others))
+    ∙ sym (ap is_any (sum_by-cons (λ (load : Load). load.overdue) other others))
 
-top_of : Shows load_top (markup_of load_top)
-unfolding load_top
-top_of = shows _ _ refl refl
-
-total_of : (live late : List ℕ) (is_late : Bool)
-    → Shows (load_total live is_late late) (markup_of (load_total [] is_late []))
-unfolding load_total word
-total_of live late true = shows _ _ refl refl
-total_of live late false = shows _ _ refl refl
-
-pub workload_has : (caller : List ℕ) (moment : ℕ) (loads : List Load)
-    → HasMarkup (workload_page caller moment loads) (workload_markup loads)
-workload_has caller moment loads = has_markup _ _
-    (both _ _ _ _ (top_shows (codes "Workload") Workload caller)
-    (both _ _ _ _
-    (both _ _ _ _ top_of (both _ _ _ _
-    (each_shows (load_row caller (most loads)) markup_of_load (row_shows caller (most loads)) loads)
-    (total_of (decimal (all_live loads)) (decimal (all_overdue loads))
-    (is_any (all_overdue loads)))))
-    (bottom_shows moment)))
+pub workload_same : (caller other : List ℕ) (moment later : ℕ) (loads others : List Load)
+    → late_told loads ≡ late_told others
+    → SameMarkup (workload_page caller moment loads) (workload_page other later others)
+unfolding through
+workload_same caller other moment later loads others each =
+    same_both (same_top (codes "Workload") (codes "Workload") Workload caller other)
+    (same_both (same_filled LOAD_TOP.now refl _ _ _)
+    (same_both (same_rows (load_row caller (most loads)) (load_row other (most others))
+    (λ load. is_any load.overdue) (λ load. is_any load.overdue)
+    (same_row caller other (most loads) (most others)) loads others each)
+    (same_both (same_total loads others (same_sum loads others each)) (same_bottom moment later))))

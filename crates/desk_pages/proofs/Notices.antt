@@ -1,17 +1,24 @@
--- The markup of the page of a fault.
-use Rattle.std.proofs.Common.{ℕ, List, [], refl}
-use Rattle.page_core.specs.Markup.{HasMarkup, markup_of}
-use Rattle.page_core.proofs.Shows.{Shows, both, has_markup, shows}
-use Rattle.desk_pages.specs.Fault.{fault_markup, fault_notice, fault_page}
-use Rattle.desk_pages.proofs.Frames.{bare_foot_shows, bare_head_shows}
+-- The markup of the page of a fault, and of the one on which one signs in.
+use Rattle.std.proofs.Common.{ℕ, Bool, List, codes, refl}
+use Rattle.page_core.specs.Markup.{SameMarkup}
+use Rattle.page_core.specs.Template.{through}
+use Rattle.page_core.proofs.Same.{same_both, same_filled}
+use Rattle.desk_pages.specs.Fault.{fault, fault_page}
+use Rattle.desk_pages.specs.SignIn.{sign_in_page}
+use Rattle.desk_pages.specs.declared.markup.fault.TheConstants.{FAULT}
+use Rattle.desk_pages.specs.declared.markup.sign_in.TheConstants.{SIGN_IN}
+use Rattle.desk_pages.proofs.Frames.{same_bare_bottom, same_bare_top}
 
-notice_shows : (heading sentence code : List ℕ)
-    → Shows (fault_notice heading sentence code) (markup_of (fault_notice [] [] []))
-unfolding fault_notice
-notice_shows heading sentence code = shows _ _ refl refl
+pub fault_same : (heading another sentence words code name : List ℕ)
+    → SameMarkup (fault_page heading sentence code) (fault_page another words name)
+unfolding fault through
+fault_same heading another sentence words code name =
+    same_both (same_bare_top heading another)
+    (same_both (same_filled FAULT.now refl _ _ _) same_bare_bottom)
 
-pub fault_has : (heading sentence code : List ℕ)
-    → HasMarkup (fault_page heading sentence code) fault_markup
-fault_has heading sentence code = has_markup _ _
-    (both _ _ _ _ (bare_head_shows heading)
-    (both _ _ _ _ (notice_shows heading sentence code) bare_foot_shows))
+pub sign_in_same : (next other : List ℕ) (refused elsewhere : Bool)
+    → SameMarkup (sign_in_page next refused elsewhere) (sign_in_page other refused elsewhere)
+unfolding through
+sign_in_same next other refused elsewhere =
+    same_both (same_bare_top (codes "Sign in") (codes "Sign in"))
+    (same_both (same_filled SIGN_IN.now refl _ _ _) same_bare_bottom)

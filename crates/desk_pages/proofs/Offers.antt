@@ -1,71 +1,96 @@
 -- The markup of the moves that are offered.
-use Rattle.std.proofs.Common.{ℕ, List, [], ◌∷◌, Option, Some, None, refl}
+use Rattle.std.proofs.Common.{◌≡◌, ◌∙◌, ℕ, Bool, false, ◌||◌, List, [], ◌∷◌, Option, Some, None}
+use Rattle.std.proofs.Common.{map, refl, ap}
+use Rattle.std.specs.List.{list_any}
+use Rattle.lifecycle_core.specs.Lifecycle.{may_move}
 use Rattle.lifecycle_core.specs.declared.parts.Parts.{Parts}
-use Rattle.lifecycle_core.specs.Lifecycle.{class_of, may_move}
-use Rattle.page_core.specs.Markup.{markup_of}
-use Rattle.page_core.proofs.Shows.{Shows, both, each_shows, shows}
-use Rattle.desk_pages.specs.Moves.{button, closings, closings_markup, fold_end, fold_head, folded}
-use Rattle.desk_pages.specs.Moves.{folded_markup, has_offer, leads_on, move_form, move_form_markup}
-use Rattle.desk_pages.specs.Moves.{moves, moves_end, moves_head, moves_markup, offer, offer_markup}
-use Rattle.desk_pages.specs.Moves.{offers, offers_markup}
-use Rattle.desk_pages.specs.Rows.{word_of_class}
-use Rattle.desk_pages.proofs.Tables.{if_shows, nothing_shows}
+use Rattle.page_core.specs.Markup.{SameMarkup}
+use Rattle.page_core.specs.Template.{through}
+use Rattle.page_core.proofs.Same.{same_both, same_filled, same_flags, same_none, same_rows}
+use Rattle.desk_pages.specs.Moves.{are_offered, closings, folded, leads_on, move_form, moves}
+use Rattle.desk_pages.specs.Moves.{moves_told, offer, offers, offers_told}
+use Rattle.desk_pages.specs.declared.markup.moves.TheConstants.{FOLD_END, FOLD_TOP, MOVES_END}
+use Rattle.desk_pages.specs.declared.markup.moves.TheConstants.{MOVES_TOP, OFFER}
+use Rattle.desk_pages.proofs.Tables.{same_if}
 
-moves_head_shows : (id : List ℕ) → Shows (moves_head id) (markup_of (moves_head []))
-unfolding moves_head
-moves_head_shows id = shows _ _ refl refl
+same_offer : (lifecycle other : Parts) (from since : List ℕ) (to on : List ℕ)
+    → may_move lifecycle from to ≡ may_move other since on
+    → SameMarkup (offer lifecycle from to) (offer other since on)
+unfolding offer through
+same_offer lifecycle other from since to on same =
+    same_flags OFFER.now refl _ _ _ _ (ap (λ flag. flag ∷ []) same)
 
-button_shows : (state status : List ℕ) → Shows (button state status) (markup_of (button [] []))
-unfolding button
-button_shows state status = shows _ _ refl refl
+same_offers : (lifecycle other : Parts) (from since : List ℕ) (statuses names : List (List ℕ))
+    → are_offered lifecycle from statuses ≡ are_offered other since names
+    → SameMarkup (offers lifecycle from statuses) (offers other since names)
+same_offers lifecycle other from since statuses names same =
+    same_rows (offer lifecycle from) (offer other since) (may_move lifecycle from) (may_move other
+    since)
+    (same_offer lifecycle other from since) statuses names same
 
-fold_head_shows : Shows fold_head (markup_of fold_head)
-unfolding fold_head
-fold_head_shows = shows _ _ refl refl
+any_same : (test other : List ℕ → Bool) (xs ys : List (List ℕ)) → map test xs ≡ map other ys
+    → list_any test xs ≡ list_any other ys
+any_same test other [] [] same = refl
+any_same test other [] (y ∷ ys) same = absurd (cc)
+any_same test other (x ∷ xs) [] same = absurd (cc)
+any_same test other (x ∷ xs) (y ∷ ys) same =
+    let head : test x ≡ other y = cc in
+    let tail : map test xs ≡ map other ys = cc in
+    ap (λ first. first || list_any test xs) head
+    ∙ ap (λ rest. other y || rest) (any_same test other xs ys tail)
 
-fold_end_shows : Shows fold_end (markup_of fold_end)
-unfolding fold_end
-fold_end_shows = shows _ _ refl refl
+same_folded : (lifecycle other : Parts) (from since : List ℕ) (statuses names : List (List ℕ))
+    → are_offered lifecycle from statuses ≡ are_offered other since names
+    → SameMarkup (folded lifecycle from statuses) (folded other since names)
+unfolding folded through
+same_folded lifecycle other from since statuses names same =
+    let any = any_same (may_move lifecycle from) (may_move other since) statuses names same in
+    same_both (same_flags FOLD_TOP.now refl _ _ _ _ (ap (λ flag. flag ∷ []) any))
+    (same_both (same_offers lifecycle other from since statuses names same)
+    (same_flags FOLD_END.now refl _ _ _ _ (ap (λ flag. flag ∷ []) any)))
 
-moves_end_shows : Shows moves_end (markup_of moves_end)
-unfolding moves_end
-moves_end_shows = shows _ _ refl refl
+same_closings : (lifecycle other : Parts) (from since : List ℕ) (statuses names : List (List ℕ))
+    → are_offered lifecycle from statuses ≡ are_offered other since names
+    → SameMarkup (closings lifecycle from statuses) (closings other since names)
+same_closings lifecycle other from since [] [] same = same_none
+same_closings lifecycle other from since [] (y ∷ ys) same = absurd (cc)
+same_closings lifecycle other from since (x ∷ xs) [] same = absurd (cc)
+same_closings lifecycle other from since (x ∷ xs) (y ∷ ys) same =
+    let head : may_move lifecycle from x ≡ may_move other since y = cc in
+    let tail : are_offered lifecycle from xs ≡ are_offered other since ys = cc in
+    same_both (same_offer lifecycle other from since x y head)
+    (same_folded lifecycle other from since xs ys tail)
 
-offer_shows : (lifecycle : Parts) (from to : List ℕ)
-    → Shows (offer lifecycle from to) (offer_markup lifecycle from to)
-offer_shows lifecycle from to =
-    if_shows (may_move lifecycle from to) _ _
-    (button_shows (word_of_class (class_of lifecycle to)) to)
+same_form : (id another : ℕ) (lifecycle other : Parts) (from since : List ℕ)
+    → offers_told lifecycle from ≡ offers_told other since
+    → SameMarkup (move_form id lifecycle from) (move_form another other since)
+unfolding move_form through
+same_form id another lifecycle other from since same =
+    let first : are_offered lifecycle from lifecycle.initial ≡ are_offered other since
+    other.initial = cc in
+    let second : are_offered lifecycle from lifecycle.active ≡ are_offered other since
+    other.active = cc in
+    let third : are_offered lifecycle from lifecycle.inactive ≡ are_offered other since
+    other.inactive = cc in
+    same_both (same_filled MOVES_TOP.now refl _ _ _)
+    (same_both (same_offers lifecycle other from since lifecycle.initial other.initial first)
+    (same_both (same_offers lifecycle other from since lifecycle.active other.active second)
+    (same_both (same_closings lifecycle other from since lifecycle.inactive other.inactive third)
+    (same_filled MOVES_END.now refl _ _ _))))
 
-offers_show : (lifecycle : Parts) (from : List ℕ) (statuses : List (List ℕ))
-    → Shows (offers lifecycle from statuses) (offers_markup lifecycle from statuses)
-offers_show lifecycle from statuses =
-    each_shows (offer lifecycle from) (offer_markup lifecycle from) (offer_shows lifecycle from)
-    statuses
-
-folded_shows : (lifecycle : Parts) (from : List ℕ) (statuses : List (List ℕ))
-    → Shows (folded lifecycle from statuses) (folded_markup lifecycle from statuses)
-folded_shows lifecycle from statuses =
-    if_shows (has_offer lifecycle from statuses) _ _
-    (both _ _ _ _ fold_head_shows
-    (both _ _ _ _ (offers_show lifecycle from statuses) fold_end_shows))
-
-closings_show : (lifecycle : Parts) (from : List ℕ) (statuses : List (List ℕ))
-    → Shows (closings lifecycle from statuses) (closings_markup lifecycle from statuses)
-closings_show lifecycle from [] = nothing_shows
-closings_show lifecycle from (first ∷ others) =
-    both _ _ _ _ (offer_shows lifecycle from first) (folded_shows lifecycle from others)
-
-move_form_shows : (id : List ℕ) (lifecycle : Parts) (from : List ℕ)
-    → Shows (move_form id lifecycle from) (move_form_markup lifecycle from)
-move_form_shows id lifecycle from =
-    both _ _ _ _ (moves_head_shows id)
-    (both _ _ _ _ (offers_show lifecycle from lifecycle.initial)
-    (both _ _ _ _ (offers_show lifecycle from lifecycle.active)
-    (both _ _ _ _ (closings_show lifecycle from lifecycle.inactive) moves_end_shows)))
-
-pub moves_show : (id : List ℕ) (lifecycle : Option Parts) (from : List ℕ)
-    → Shows (moves id lifecycle from) (moves_markup lifecycle from)
-moves_show id None from = nothing_shows
-moves_show id (Some lifecycle) from =
-    if_shows (leads_on lifecycle from) _ _ (move_form_shows id lifecycle from)
+pub same_moves : (id another : ℕ) (lifecycle other : Option Parts) (from since : List ℕ)
+    → moves_told lifecycle from ≡ moves_told other since
+    → SameMarkup (moves id lifecycle from) (moves another other since)
+same_moves id another None None from since same = same_none
+same_moves id another None (Some other) from since same =
+    same_if false (leads_on other since) [] (offers_told other since) [] (move_form another other
+    since)
+    same (λ told. absurd (cc))
+same_moves id another (Some lifecycle) None from since same =
+    same_if (leads_on lifecycle from) false (offers_told lifecycle from) [] (move_form id
+    lifecycle from) []
+    same (λ told. absurd (cc))
+same_moves id another (Some lifecycle) (Some other) from since same =
+    same_if (leads_on lifecycle from) (leads_on other since) (offers_told lifecycle from)
+    (offers_told other since) (move_form id lifecycle from) (move_form another other since) same
+    (same_form id another lifecycle other from since)

@@ -1,32 +1,49 @@
 -- The markup of pieces that several pages have.
-use Rattle.std.proofs.Common.{ℕ, Bool, true, false, List, [], Option, Some, None, codes, is_some, refl}
-use Rattle.page_core.specs.Markup.{markup_of}
+use Rattle.std.proofs.Common.{◌≡◌, ℕ, Bool, true, false, not, ◌==◌, List, [], ◌∷◌, Option, Some}
+use Rattle.std.proofs.Common.{None}
+use Rattle.std.proofs.Common.{if◌then◌else◌, is_some, length, refl, ap}
+use Rattle.page_core.specs.Markup.{SameMarkup}
 use Rattle.page_core.specs.Page.{Part}
-use Rattle.page_core.proofs.Shows.{Shows, shows}
-use Rattle.desk_pages.specs.Pieces.{chosen, no_moment, parts_if, table_end, time, time_or_dash, word}
+use Rattle.page_core.specs.Template.{through}
+use Rattle.page_core.proofs.Same.{same_filled, same_flags, same_none}
+use Rattle.desk_pages.specs.Pieces.{choice, is_filled, parts_if, table_end, time_or_dash}
+use Rattle.desk_pages.specs.declared.markup.pieces.TheConstants.{CHOICE, NO_TIME, TABLE_END, TIME}
 
-pub table_end_shows : Shows table_end (markup_of table_end)
-unfolding table_end
-table_end_shows = shows _ _ refl refl
+pub never : {P : Type 0} → false ≡ true → P
+never end = absurd (cc)
 
-pub due_shows : (due : Option ℕ)
-    → Shows (time_or_dash due) (word (is_some due) (codes "<time datetime=\"\"></time>"))
-unfolding no_moment time word
-due_shows None = shows _ _ refl refl
-due_shows (Some due) = shows _ _ refl refl
+pub nowhere : {P : Type 0} → true ≡ false → P
+nowhere end = absurd (cc)
 
-pub chosen_shows : (first : Bool) (name : List ℕ)
-    → Shows (chosen first name) (markup_of (chosen first []))
-unfolding chosen word
-chosen_shows true name = shows _ _ refl refl
-chosen_shows false name = shows _ _ refl refl
+pub same_table_end : SameMarkup table_end table_end
+unfolding table_end through
+same_table_end = same_filled TABLE_END.now refl _ _ _
 
-pub nothing_shows : Shows [] []
-nothing_shows = shows _ _ refl refl
+pub same_choice : (first one : Bool) (name other : List ℕ) → first ≡ one
+    → SameMarkup (choice first name) (choice one other)
+unfolding choice through
+same_choice first one name other same =
+    same_flags CHOICE.now refl _ _ _ _ (ap (λ flag. flag ∷ []) same)
 
--- a piece that stands there where something holds
-pub if_shows : (holds : Bool) (parts : List Part) (markup : List ℕ) → Shows parts markup
-    → Shows (parts_if holds parts) (word holds markup)
-unfolding word
-if_shows true parts markup piece = piece
-if_shows false parts markup piece = nothing_shows
+pub same_due : (due other : Option ℕ) → is_some due ≡ is_some other
+    → SameMarkup (time_or_dash due) (time_or_dash other)
+unfolding time_or_dash through
+same_due None None same = same_filled NO_TIME.now refl _ _ _
+same_due None (Some other) same = never same
+same_due (Some due) None same = nowhere same
+same_due (Some due) (Some other) same = same_filled TIME.now refl _ _ _
+
+-- as many, or none in both
+pub filled_alike : {X : Type 0} {Y : Type 0} (xs : List X) (ys : List Y) → length xs ≡ length ys
+    → is_filled xs ≡ is_filled ys
+filled_alike xs ys same = ap (λ n. not (n == 0)) same
+
+-- what stands there where something holds, of which then the same is told
+pub same_if : {T : Type 0} (holds held : Bool) (told tells : T) (parts others : List Part)
+    → (if holds then Some told else None) ≡ (if held then Some tells else None)
+    → (told ≡ tells → SameMarkup parts others)
+    → SameMarkup (parts_if holds parts) (parts_if held others)
+same_if true true told tells parts others same each = let e : told ≡ tells = cc in each e
+same_if true false told tells parts others same each = absurd (cc)
+same_if false true told tells parts others same each = absurd (cc)
+same_if false false told tells parts others same each = same_none

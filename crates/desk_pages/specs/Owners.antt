@@ -1,5 +1,6 @@
 -- The names that are suggested for a request's next owner.
-use Rattle.std.specs.Prelude.{ℕ, Bool, false, List, [], ◌∷◌, ◌++◌, codes, filter, take}
+use Rattle.std.specs.Prelude.{ℕ, Bool, false, List, [], ◌++◌, filter, take}
+use Rattle.std.specs.Prelude.{if◌then◌else◌}
 use Rattle.std.specs.List.{flat_map}
 use Rattle.std.specs.Option.{option_map_or}
 use Rattle.std.specs.Str.{bytes_eq}
@@ -10,15 +11,10 @@ use Rattle.text_core.specs.Texts.{is_among}
 use Rattle.settings_core.specs.Settings.{people_of}
 use Rattle.settings_core.specs.declared.settings.Settings.{Settings}
 use Rattle.desk_model.specs.declared.answer.Shown.{Shown}
-use Rattle.page_core.specs.Markup.{markup_of}
-use Rattle.page_core.specs.Page.{Part, Markup}
-use Rattle.desk_pages.specs.People.{people_end, person, persons_markup}
-use Rattle.desk_pages.specs.Pieces.{parts_if, word}
-
-unfoldable pub owners_head : List Part
-owners_head =
-    Markup (codes "<datalist id=\"owners\">\n")
-    ∷ []
+use Rattle.page_core.specs.Page.{Part}
+use Rattle.page_core.specs.Template.{filled}
+use Rattle.desk_pages.specs.People.{person}
+use Rattle.desk_pages.specs.declared.markup.people.TheConstants.{OWNERS_END, OWNERS_TOP}
 
 abbrev pub roles_in : Shown → List ℕ → Roles
 roles_in shown name =
@@ -39,15 +35,11 @@ abbrev pub suggested : Settings → Shown → List (List ℕ)
 suggested settings shown = take 200 (filter (may_own settings shown) (people_of settings).persons)
 
 -- a caller who may not own it isn't told who may
+abbrev pub names_told : List ℕ → Settings → Shown → List (List ℕ)
+names_told caller settings shown =
+    if may_own settings shown caller then suggested settings shown else []
+
 abbrev pub owners : List ℕ → Settings → Shown → List Part
 owners caller settings shown =
-    owners_head
-    ++ (parts_if (may_own settings shown caller) (flat_map person (suggested settings shown))
-    ++ people_end)
-
--- their markup: how many they are
-abbrev pub owners_markup : List ℕ → Settings → Shown → List ℕ
-owners_markup caller settings shown =
-    markup_of owners_head
-    ++ (word (may_own settings shown caller) (persons_markup (suggested settings shown))
-    ++ markup_of people_end)
+    filled OWNERS_TOP.now [] []
+    ++ (flat_map person (names_told caller settings shown) ++ filled OWNERS_END.now [] [])

@@ -1,67 +1,43 @@
 -- The names that are suggested where a person is asked: those that the page shows anyway.
-use Rattle.std.specs.Prelude.{ℕ, Bool, not, ◌||◌, List, [], ◌∷◌, ◌++◌, Option, Some, None, codes}
+use Rattle.std.specs.Prelude.{ℕ, Bool, false, not, ◌||◌, List, [], ◌∷◌, ◌++◌, Option, Some, None}
+use Rattle.std.specs.Prelude.{unwrap_or}
 use Rattle.std.specs.List.{flat_map}
 use Rattle.text_core.specs.Texts.{is_among}
 use Rattle.desk_model.specs.declared.answer.Shown.{Shown}
-use Rattle.page_core.specs.Markup.{markup_of}
-use Rattle.page_core.specs.Page.{Part, Markup, Text}
-use Rattle.desk_pages.specs.Pieces.{parts_if, word}
+use Rattle.page_core.specs.Page.{Part}
+use Rattle.page_core.specs.Template.{filled}
 use Rattle.desk_pages.specs.Rows.{is_of}
-
-unfoldable pub people_head : List Part
-people_head =
-    Markup (codes "<datalist id=\"people\">\n")
-    ∷ []
+use Rattle.desk_pages.specs.declared.markup.people.TheConstants.{PEOPLE_END, PEOPLE_TOP, PERSON}
 
 unfoldable pub person : List ℕ → List Part
-person name =
-    Markup (codes "<option value=\"")
-    ∷ Text name
-    ∷ Markup (codes "\"></option>\n")
-    ∷ []
-
-unfoldable pub people_end : List Part
-people_end =
-    Markup (codes "</datalist>\n")
-    ∷ []
+person name = filled PERSON.now (name ∷ []) []
 
 -- the person has a role on it
 abbrev pub watches : Shown → List ℕ → Bool
 watches shown name =
     is_among shown.requestors name || is_among shown.cc name || is_among shown.admin_cc name
 
--- the owner, but for one who has a role too
-abbrev pub owner_person : Shown → Option (List ℕ) → List Part
-owner_person shown None = []
-owner_person shown (Some owner) = parts_if (not (watches shown owner)) (person owner)
+-- the owner is told, but for one who has a role too
+abbrev pub is_owner_told : Shown → Option (List ℕ) → Bool
+is_owner_told shown None = false
+is_owner_told shown (Some owner) = not (watches shown owner)
 
--- the caller, but for one who has a role or owns it
+-- the caller is told, but for one who has a role or owns it
 abbrev pub is_stranger : List ℕ → Shown → Bool
 is_stranger caller shown = not (watches shown caller || is_of caller shown.row.owner)
+
+-- which of the two are told
+abbrev pub ends_told : List ℕ → Shown → List Bool
+ends_told caller shown = is_owner_told shown shown.row.owner ∷ is_stranger caller shown ∷ []
+
+unfoldable pub people_end : List ℕ → Shown → List Part
+people_end caller shown =
+    filled PEOPLE_END.now (unwrap_or shown.row.owner [] ∷ caller ∷ []) (ends_told caller shown)
 
 -- whoever has a role, once for each, then the owner and the caller
 abbrev pub people : List ℕ → Shown → List Part
 people caller shown =
-    people_head
+    filled PEOPLE_TOP.now [] []
     ++ (flat_map person shown.requestors
     ++ (flat_map person shown.cc
-    ++ (flat_map person shown.admin_cc
-    ++ (owner_person shown shown.row.owner
-    ++ (parts_if (is_stranger caller shown) (person caller) ++ people_end)))))
-
--- their markup: how many they are
-abbrev pub persons_markup : List (List ℕ) → List ℕ
-persons_markup names = flat_map (λ name. markup_of (person [])) names
-
-abbrev pub owner_markup : Shown → Option (List ℕ) → List ℕ
-owner_markup shown None = []
-owner_markup shown (Some owner) = word (not (watches shown owner)) (markup_of (person []))
-
-abbrev pub people_markup : List ℕ → Shown → List ℕ
-people_markup caller shown =
-    markup_of people_head
-    ++ (persons_markup shown.requestors
-    ++ (persons_markup shown.cc
-    ++ (persons_markup shown.admin_cc
-    ++ (owner_markup shown shown.row.owner
-    ++ (word (is_stranger caller shown) (markup_of (person [])) ++ markup_of people_end)))))
+    ++ (flat_map person shown.admin_cc ++ people_end caller shown)))

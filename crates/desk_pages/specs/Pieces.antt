@@ -1,7 +1,10 @@
 -- Pieces that several pages have.
-use Rattle.std.specs.Prelude.{ℕ, Bool, true, false, List, [], ◌∷◌, Option, Some, None, codes}
-use Rattle.hours_core.specs.Date.{date_of_minute, text_of_date, text_of_time}
-use Rattle.page_core.specs.Page.{Part, Markup, Text}
+use Rattle.std.specs.Prelude.{◌==◌, not, ℕ, Bool, true, false, List, [], ◌∷◌, Option, Some, None}
+use Rattle.std.specs.Prelude.{length}
+use Rattle.page_core.specs.Page.{Part}
+use Rattle.page_core.specs.Template.{filled}
+use Rattle.page_core.specs.Values.{clock, day}
+use Rattle.desk_pages.specs.declared.markup.pieces.TheConstants.{CHOICE, NO_TIME, TABLE_END, TIME}
 
 -- a dash, and an apostrophe, as UTF-8
 abbrev pub dash : List ℕ
@@ -10,65 +13,25 @@ dash = 226 ∷ (128 ∷ (147 ∷ []))
 abbrev pub quote : List ℕ
 quote = 226 ∷ (128 ∷ (153 ∷ []))
 
--- markup where something holds
-unfoldable pub word : Bool → List ℕ → List ℕ
-word true markup = markup
-word false markup = []
+-- whether there is any
+abbrev pub is_filled : {X : Type 0} → List X → Bool
+is_filled xs = not (length xs == 0)
 
 -- parts where something holds
 abbrev pub parts_if : Bool → List Part → List Part
 parts_if true parts = parts
 parts_if false parts = []
 
--- a moment, of its day and its time of the day
-unfoldable pub time : List ℕ → List ℕ → List Part
-time day clock =
-    Markup (codes "<time datetime=\"")
-    ∷ Text day
-    ∷ Markup (codes "T")
-    ∷ Text clock
-    ∷ Markup (codes "Z\">")
-    ∷ Text day
-    ∷ Markup (codes " ")
-    ∷ Text clock
-    ∷ Markup (codes "</time>")
-    ∷ []
-
--- something to choose
-unfoldable pub choice : List ℕ → List Part
-choice name =
-    Markup (codes "<option>")
-    ∷ Text name
-    ∷ Markup (codes "</option>\n")
-    ∷ []
+-- a moment, or a dash for none
+unfoldable pub time_or_dash : Option ℕ → List Part
+time_or_dash None = filled NO_TIME.now [] []
+time_or_dash (Some moment) =
+    filled TIME.now (day moment ∷ clock moment ∷ day moment ∷ clock moment ∷ []) []
 
 -- something to choose, and whether it is chosen at first
-unfoldable pub chosen : Bool → List ℕ → List Part
-chosen first name =
-    Markup (codes "<option")
-    ∷ Markup (word first (codes " selected"))
-    ∷ Markup (codes ">")
-    ∷ Text name
-    ∷ Markup (codes "</option>\n")
-    ∷ []
+unfoldable pub choice : Bool → List ℕ → List Part
+choice first name = filled CHOICE.now (name ∷ []) (first ∷ [])
 
 -- the end of a table, and what is said where it shows no row
 unfoldable pub table_end : List Part
-table_end =
-    Markup (codes "</tbody>\n</table>\n<p class=\"none\">There are none of these.</p>\n")
-    ∷ []
-
--- no moment
-unfoldable pub no_moment : List Part
-no_moment =
-    Markup dash
-    ∷ []
-
--- a moment
-abbrev pub time_of : ℕ → List Part
-time_of moment = time (text_of_date (date_of_minute moment)) (text_of_time moment)
-
--- a moment, or a dash for none
-abbrev pub time_or_dash : Option ℕ → List Part
-time_or_dash None = no_moment
-time_or_dash (Some moment) = time_of moment
+table_end = filled TABLE_END.now [] []

@@ -1,76 +1,25 @@
 -- What is said of a refusal, and the page of one.
-use Rattle.std.specs.Prelude.{ℕ, Bool, true, false, List, [], ◌∷◌, ◌++◌, codes, decimal}
+use Rattle.std.specs.Prelude.{ℕ, Bool, true, false, not, List, [], ◌∷◌, ◌++◌, codes, decimal}
 use Rattle.desk_model.specs.declared.refusal.Refusal.{Refusal}
 use Rattle.desk_model.specs.declared.refusal.Refusal.TheVariants as refusal
 use Rattle.desk_model.specs.Refusals.{name_of, number_of}
-use Rattle.page_core.specs.Page.{Part, Markup, Text}
-use Rattle.desk_pages.specs.Pieces.{quote, word}
+use Rattle.page_core.specs.Page.{Part}
+use Rattle.page_core.specs.Template.{filled}
+use Rattle.desk_pages.specs.Pieces.{quote}
+use Rattle.desk_pages.specs.declared.markup.refused.TheConstants.{CRUMB, NOTICE, TO_QUEUE}
+use Rattle.desk_pages.specs.declared.markup.refused.TheConstants.{TO_REQUEST}
 
--- the way to the request
-unfoldable pub request_crumb : List ℕ → List Part
-request_crumb id =
-    Markup (codes "<p class=\"crumb\"><a href=\"/desk/requests/")
-    ∷ Text id
-    ∷ Markup (codes "\">Request ")
-    ∷ Text id
-    ∷ Markup (codes "</a></p>\n")
-    ∷ []
+-- the way to the request, where that is there
+unfoldable pub crumb : Bool → ℕ → List Part
+crumb found id = filled CRUMB.now (decimal id ∷ decimal id ∷ []) (found ∷ [])
 
--- why it is refused, in words and by number and name
-unfoldable pub notice : List ℕ → List ℕ → List ℕ → List ℕ → List ℕ → List ℕ → Bool → List Part
-notice heading front right back number name denied =
-    Markup (codes "<h1>")
-    ∷ Text heading
-    ∷ Markup (codes "</h1>\n<p class=\"alert\">")
-    ∷ Text front
-    ∷ Text right
-    ∷ Text back
-    ∷ Markup (codes " <code>refused ")
-    ∷ Text number
-    ∷ Markup (codes " ")
-    ∷ Text name
-    ∷ Markup (word denied (codes " "))
-    ∷ Text right
-    ∷ Markup (codes "</code></p>\n")
-    ∷ []
+-- the way back to the request or the queue, or to the queues where it isn't there
+unfoldable pub to_request : Bool → ℕ → List Part
+to_request found id =
+    filled TO_REQUEST.now (decimal id ∷ decimal id ∷ []) (found ∷ not found ∷ [])
 
--- a form in which a text was typed
-unfoldable pub write_open : List Part
-write_open =
-    Markup (codes "<div class=\"write\">\n")
-    ∷ []
-
--- its end
-unfoldable pub write_close : List Part
-write_close =
-    Markup (codes "\n</div>\n")
-    ∷ []
-
--- the way back to a request
-unfoldable pub to_request : List ℕ → List Part
-to_request id =
-    Markup (codes "<p><a class=\"button\" href=\"/desk/requests/")
-    ∷ Text id
-    ∷ Markup (codes "\">Back to request ")
-    ∷ Text id
-    ∷ Markup (codes "</a></p>\n")
-    ∷ []
-
--- the way back to a queue
-unfoldable pub to_queue : List ℕ → List Part
-to_queue queue =
-    Markup (codes "<p><a class=\"button\" href=\"/desk/queues/")
-    ∷ Text queue
-    ∷ Markup (codes "\">Back to ")
-    ∷ Text queue
-    ∷ Markup (codes "</a></p>\n")
-    ∷ []
-
--- the way to the queues
-unfoldable pub to_queues : List Part
-to_queues =
-    Markup (codes "<p><a class=\"button\" href=\"/\">To the queues</a></p>\n")
-    ∷ []
+unfoldable pub to_queue : Bool → List ℕ → List Part
+to_queue found queue = filled TO_QUEUE.now (queue ∷ queue ∷ []) (found ∷ not found ∷ [])
 
 -- the heading of a refusal
 unfoldable pub heading_of : Refusal → List ℕ
@@ -163,11 +112,15 @@ back_of (refusal.Denied right) =
     ++ (codes "request.")))
 back_of _ = []
 
--- why a command is refused
+-- why a command is refused, in words and by number and name
+unfoldable pub notice : List ℕ → Refusal → List Part
+notice front why =
+    filled NOTICE.now
+    (heading_of why ∷ front ∷ right_of why ∷ back_of why ∷ decimal (number_of why) ∷ name_of why
+    ∷ right_of why ∷ []) (is_denied why ∷ [])
+
 abbrev pub notice_of : Refusal → List Part
-notice_of why =
-    notice (heading_of why) (front_of why) (right_of why) (back_of why) (decimal (number_of why))
-    (name_of why) (is_denied why)
+notice_of why = notice (front_of why) why
 
 -- ---- of the second of two commands, after the first was done
 
@@ -178,6 +131,4 @@ front_after refusal.Unavailable =
 front_after other = front_of other
 
 abbrev pub notice_after : Refusal → List Part
-notice_after why =
-    notice (heading_of why) (front_after why) (right_of why) (back_of why) (decimal (number_of why))
-    (name_of why) (is_denied why)
+notice_after why = notice (front_after why) why

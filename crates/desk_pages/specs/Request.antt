@@ -1,61 +1,32 @@
 -- The page of a request: what is known of it, what happened, and what may be written to it.
-use Rattle.std.specs.Prelude.{ℕ, false, if◌then◌else◌, List, [], ◌∷◌, ◌++◌, Option, None, codes}
-use Rattle.std.specs.Prelude.{decimal}
+use Rattle.std.specs.Prelude.{ℕ, Bool, false, if◌then◌else◌, List, [], ◌∷◌, ◌++◌, Option, None}
+use Rattle.std.specs.Prelude.{codes}
+use Rattle.std.specs.Prelude.{decimal, is_some}
 use Rattle.settings_core.specs.Settings.{lifecycle_named}
 use Rattle.settings_core.specs.declared.settings.Settings.{Settings}
 use Rattle.desk_model.specs.declared.answer.Dossier.{Dossier}
-use Rattle.page_core.specs.Markup.{markup_of}
-use Rattle.page_core.specs.Page.{Part, Markup, Text}
-use Rattle.desk_pages.specs.Change.{change, change_markup, is_open}
-use Rattle.desk_pages.specs.Facts.{facts, facts_markup}
-use Rattle.desk_pages.specs.Frame.{bottom, bottom_markup, top, top_markup}
-use Rattle.desk_pages.specs.History.{history, history_markup}
+use Rattle.desk_model.specs.declared.rows.EntryKind.{EntryKind}
+use Rattle.desk_model.specs.declared.rows.RequestRow.{RequestRow}
+use Rattle.page_core.specs.Page.{Part}
+use Rattle.page_core.specs.Template.{filled}
+use Rattle.desk_pages.specs.Change.{ChangeTold, change, change_told, is_open}
+use Rattle.desk_pages.specs.Facts.{FactsTold, facts, facts_told}
+use Rattle.desk_pages.specs.Frame.{bottom, top}
+use Rattle.desk_pages.specs.History.{history, kinds_told}
 use Rattle.desk_pages.specs.Moves.{closing}
-use Rattle.desk_pages.specs.Write.{comment, reply, reply_markup}
+use Rattle.desk_pages.specs.Write.{comment, reply}
 use Rattle.desk_pages.specs.declared.frame.Place.TheVariants as place
+use Rattle.desk_pages.specs.declared.markup.request.TheConstants.{COMMENT_TOP, REPLY_TOP}
+use Rattle.desk_pages.specs.declared.markup.request.TheConstants.{REQUEST_TOP, WRITING_END}
 
 -- the number and the subject
 unfoldable pub request_title : ℕ → List ℕ → List ℕ
 request_title id subject = codes "#" ++ (decimal id ++ (codes " " ++ subject))
 
 -- the way back, and the heading
-unfoldable pub request_head : List ℕ → List ℕ → List ℕ → List Part
-request_head queue id subject =
-    Markup (codes "<p class=\"crumb\"><a href=\"/\">Queues</a> / ")
-    ∷ Markup (codes "<a href=\"/desk/queues/")
-    ∷ Text queue
-    ∷ Markup (codes "\">")
-    ∷ Text queue
-    ∷ Markup (codes "</a></p>\n<h1 dir=\"auto\"><span>#")
-    ∷ Text id
-    ∷ Markup (codes "</span> ")
-    ∷ Text subject
-    ∷ Markup (codes "</h1>\n")
-    ∷ []
-
--- up to the form for a reply
-unfoldable pub reply_open : List Part
-reply_open =
-    Markup (codes "<div class=\"write\" id=\"reply\">\n")
-    ∷ []
-
--- from there to the form for a comment
-unfoldable pub comment_open : List Part
-comment_open =
-    Markup (codes "\n<details>\n<summary>Comment instead</summary>\n")
-    ∷ []
-
--- what follows the form for a comment
-unfoldable pub comment_close : List Part
-comment_close =
-    Markup (codes "\n</details>\n</div>\n</section>\n")
-    ∷ []
-
--- the end of the content
-unfoldable pub request_end : List Part
-request_end =
-    Markup (codes "</div>\n")
-    ∷ []
+unfoldable pub request_top : RequestRow → List Part
+request_top row =
+    filled REQUEST_TOP.now (row.queue ∷ row.queue ∷ decimal row.id ∷ row.subject ∷ []) []
 
 -- the status to which it can be moved with a reply, but by no requestor
 abbrev pub closing_for : List ℕ → Settings → Dossier → Option (List ℕ)
@@ -65,28 +36,29 @@ closing_for caller settings dossier =
     else None
 
 -- what may be written to the request of this number
-abbrev pub writing : List ℕ → Option (List ℕ) → List Part
+unfoldable pub writing : ℕ → Option (List ℕ) → List Part
 writing id status =
-    reply_open ++ (reply id [] status false ++ (comment_open ++ (comment id [] ++ comment_close)))
+    filled REPLY_TOP.now [] []
+    ++ (reply id [] status false
+    ++ (filled COMMENT_TOP.now [] [] ++ (comment id [] ++ filled WRITING_END.now [] [])))
 
 -- what is told of the request of this number, to a caller at a moment
-abbrev pub request_told : List ℕ → List ℕ → ℕ → Settings → Dossier → List Part
-request_told id caller moment settings dossier =
-    request_head dossier.shown.row.queue id dossier.shown.row.subject
+abbrev pub request_shown : ℕ → List ℕ → ℕ → Settings → Dossier → List Part
+request_shown id caller moment settings dossier =
+    request_top dossier.shown.row
     ++ (facts (is_open caller dossier.shown) id moment settings dossier
     ++ history dossier.entries)
 
 -- what may be done with it
-abbrev pub request_acts : List ℕ → List ℕ → Settings → Dossier → List Part
+abbrev pub request_acts : ℕ → List ℕ → Settings → Dossier → List Part
 request_acts id caller settings dossier =
-    writing id (closing_for caller settings dossier)
-    ++ (change caller settings dossier ++ request_end)
+    writing id (closing_for caller settings dossier) ++ change caller settings dossier
 
 -- the content of the page
 abbrev pub request_content : List ℕ → ℕ → Settings → Dossier → List Part
 request_content caller moment settings dossier =
-    request_told (decimal dossier.shown.row.id) caller moment settings dossier
-    ++ request_acts (decimal dossier.shown.row.id) caller settings dossier
+    request_shown dossier.shown.row.id caller moment settings dossier
+    ++ request_acts dossier.shown.row.id caller settings dossier
 
 -- the page of a request, for a caller at a moment
 abbrev pub request_page : List ℕ → ℕ → Settings → Dossier → List Part
@@ -94,23 +66,21 @@ request_page caller moment settings dossier =
     top (request_title dossier.shown.row.id dossier.shown.row.subject) place.Elsewhere caller
     ++ (request_content caller moment settings dossier ++ bottom moment)
 
-abbrev pub writing_markup : Option (List ℕ) → List ℕ
-writing_markup status =
-    markup_of reply_open
-    ++ (reply_markup status false
-    ++ (markup_of comment_open ++ (markup_of (comment [] []) ++ markup_of comment_close)))
+-- what the markup of the page tells: whether the caller is a requestor, what is told of its facts, the
+-- kinds of its entries, whether it can be closed with a reply, and what is told of what may change it
+pub record RequestTold : Type 0 where
+  pub opened : Bool
+  pub facts : FactsTold
+  pub kinds : List EntryKind
+  pub closing : Bool
+  pub change : ChangeTold
 
-abbrev pub told_markup : List ℕ → ℕ → Settings → Dossier → List ℕ
-told_markup caller moment settings dossier =
-    markup_of (request_head [] [] [])
-    ++ (facts_markup (is_open caller dossier.shown) moment settings dossier
-    ++ history_markup dossier.entries)
-
--- the markup of the page
-abbrev pub request_markup : List ℕ → ℕ → Settings → Dossier → List ℕ
-request_markup caller moment settings dossier =
-    top_markup place.Elsewhere
-    ++ ((told_markup caller moment settings dossier
-    ++ (writing_markup (closing_for caller settings dossier)
-    ++ (change_markup caller settings dossier ++ markup_of request_end)))
-    ++ bottom_markup)
+abbrev pub request_told : List ℕ → ℕ → Settings → Dossier → RequestTold
+request_told caller moment settings dossier =
+    record {
+      opened = is_open caller dossier.shown;
+      facts = facts_told moment settings dossier;
+      kinds = kinds_told dossier.entries;
+      closing = is_some (closing_for caller settings dossier);
+      change = change_told caller settings dossier;
+    }

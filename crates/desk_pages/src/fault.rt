@@ -3,8 +3,9 @@ ghost use Rattle.std.specs.Prelude.{◌≡◌, ◌++◌, IfOk, OnOk};
 ghost use Rattle.page_core.specs.Page.{page_bytes};
 ghost use Rattle.desk_pages.specs.Fault as form;
 
-use crate::frame::{put_bare_foot, put_bare_head};
-use page_core::{Part, put_parts};
+use crate::frame::{put_bare_bottom, put_bare_top};
+use crate::markup::fault::FAULT;
+use page_core::{Value, fill};
 use std::alloc::{AllocError, Global};
 
 /// The page of a fault: what is wrong, by a heading and a sentence, and its code. It is the same
@@ -19,33 +20,30 @@ pub fn fault_page(
         ≡ page_bytes (form.fault_page heading.now sentence.now code.now)) }
 {
     let mut out = Vec::new(alloc);
-    put_bare_head(&mut out, heading)?;
-    put_fault_notice(&mut out, heading, sentence, code)?;
-    put_bare_foot(&mut out)?;
+    put_bare_top(&mut out, heading)?;
+    put_fault(&mut out, heading, sentence, code)?;
+    put_bare_bottom(&mut out)?;
     Ok(out)
 }
 
-#[tactic(auto, unfolding(crate::specs::Fault::fault_notice))]
-fn put_fault_notice<'t>(
+#[tactic(auto, unfolding(crate::specs::Fault::fault))]
+fn put_fault<'t>(
     out: &mut Vec<u8>,
     heading: &'t str,
     sentence: &'t str,
     code: &'t str,
 ) -> Result<(), AllocError>
     ensures { OnOk result (out.new.items
-        ≡ out.old.items ++ page_bytes (form.fault_notice heading.now sentence.now code.now)) }
+        ≡ out.old.items ++ page_bytes (form.fault heading.now sentence.now code.now)) }
 {
-    put_parts(
+    fill(
         out,
+        FAULT,
         &[
-            Part::Markup("<h1>"),
-            Part::Text(heading),
-            Part::Markup("</h1>\n<p class=\"alert\">"),
-            Part::Text(sentence),
-            Part::Markup(" <code>"),
-            Part::Text(code),
-            Part::Markup("</code></p>\n<p><a class=\"button\" href=\"/\">To the queues</a>"),
-            Part::Markup("</p>\n"),
+            Value::Text(heading),
+            Value::Text(sentence),
+            Value::Text(code),
         ],
+        &[],
     )
 }

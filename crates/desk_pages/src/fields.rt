@@ -4,26 +4,37 @@ ghost use Rattle.std.specs.List.{flat_map};
 ghost use Rattle.page_core.specs.Page.{page_bytes};
 ghost use Rattle.desk_pages.specs.Fields as form;
 
-use crate::pieces::put_chosen;
+use crate::frame::DIGITS;
+use crate::markup::fields::{FIELDS_END, LEVEL_TOP};
+use crate::pieces::put_choice;
 use hours_core::Level;
-use page_core::{Part, put_parts};
+use page_core::{Value, fill};
 use settings_core::Named;
 use std::alloc::AllocError;
 use text_core::Text;
 
-/// Puts the form for the level, in which the present one is chosen at first.
-pub(crate) fn put_level_form(
+/// Puts the forms for the level, in which the present one is chosen at first, for watchers and for
+/// links.
+#[tactic(auto, unfolding(crate::specs::Fields::field_forms))]
+pub(crate) fn put_field_forms(
     out: &mut Vec<u8>,
-    id: &str,
+    id: u32,
     present: &Option<Text>,
     levels: &[Named<Level>],
 ) -> Result<(), AllocError>
     ensures { OnOk result (out.new.items
-        ≡ out.old.items ++ page_bytes (form.level_form id.now present.now levels.now)) }
+        ≡ out.old.items ++ page_bytes (form.field_forms id present.now levels.now)) }
 {
-    put_level_head(out, id)?;
+    let values = [
+        Value::Number(id),
+        Value::Number(id),
+        Value::Number(id),
+        Value::Text(DIGITS),
+        Value::Number(id),
+    ];
+    fill(out, LEVEL_TOP, &[Value::Number(id)], &[])?;
     put_level_rows(out, present, levels)?;
-    put_level_end(out)
+    fill(out, FIELDS_END, &values, &[])
 }
 
 fn put_level_rows(
@@ -36,7 +47,7 @@ fn put_level_rows(
 {
     for level in levels {
         let name = level.name.as_str();
-        put_chosen(out, is_present(present, name), name)?;
+        put_choice(out, is_present(present, name), name)?;
     }
     Ok(())
 }
@@ -49,98 +60,4 @@ fn is_present(present: &Option<Text>, name: &str) -> bool
         Some(level) => level.as_str() == name,
         None => false,
     }
-}
-
-/// Puts the form for links.
-pub(crate) fn put_link_form(out: &mut Vec<u8>, id: &str) -> Result<(), AllocError>
-    ensures { OnOk result (out.new.items ≡ out.old.items ++ page_bytes (form.link_form id.now)) }
-{
-    put_link_head(out, id)?;
-    put_link_end(out, id)
-}
-
-#[tactic(auto, unfolding(crate::specs::Fields::level_head))]
-fn put_level_head(out: &mut Vec<u8>, id: &str) -> Result<(), AllocError>
-    ensures { OnOk result (out.new.items ≡ out.old.items ++ page_bytes (form.level_head id.now)) }
-{
-    put_parts(
-        out,
-        &[
-            Part::Markup("<form method=\"post\" action=\"/desk/requests/"),
-            Part::Text(id),
-            Part::Markup("/level\">\n<label for=\"level\">Level</label>\n"),
-            Part::Markup("<select id=\"level\" name=\"level\">\n"),
-            Part::Markup("<option value=\"\">none</option>\n"),
-        ],
-    )
-}
-
-#[tactic(auto, unfolding(crate::specs::Fields::level_end))]
-fn put_level_end(out: &mut Vec<u8>) -> Result<(), AllocError>
-    ensures { OnOk result (out.new.items ≡ out.old.items ++ page_bytes form.level_end) }
-{
-    put_parts(
-        out,
-        &[Part::Markup("</select>\n<button>Set</button>\n</form>\n")],
-    )
-}
-
-/// Puts the form for watchers.
-#[tactic(auto, unfolding(crate::specs::Fields::watch_form))]
-pub(crate) fn put_watch_form(out: &mut Vec<u8>, id: &str) -> Result<(), AllocError>
-    ensures { OnOk result (out.new.items ≡ out.old.items ++ page_bytes (form.watch_form id.now)) }
-{
-    put_parts(
-        out,
-        &[
-            Part::Markup("<form method=\"post\" action=\"/desk/requests/"),
-            Part::Text(id),
-            Part::Markup("/watch\">\n<label for=\"role\">Role</label>\n"),
-            Part::Markup("<select id=\"role\" name=\"role\"><option>requestor</option>"),
-            Part::Markup("<option>cc</option><option>admincc</option></select>\n"),
-            Part::Markup("<label for=\"who\">Person</label>\n"),
-            Part::Markup("<input id=\"who\" name=\"person\" list=\"people\""),
-            Part::Markup(" autocapitalize=\"none\" spellcheck=\"false\" autocomplete=\"off\""),
-            Part::Markup(" required>\n<button>Put in</button>\n"),
-            Part::Markup("<button formaction=\"/desk/requests/"),
-            Part::Text(id),
-            Part::Markup("/unwatch\">Take out</button>\n</form>\n"),
-        ],
-    )
-}
-
-#[tactic(auto, unfolding(crate::specs::Fields::link_head))]
-fn put_link_head(out: &mut Vec<u8>, id: &str) -> Result<(), AllocError>
-    ensures { OnOk result (out.new.items ≡ out.old.items ++ page_bytes (form.link_head id.now)) }
-{
-    put_parts(
-        out,
-        &[
-            Part::Markup("<form method=\"post\" action=\"/desk/requests/"),
-            Part::Text(id),
-            Part::Markup("/link\">\n<label for=\"kind\">Link</label>\n"),
-            Part::Markup("<select id=\"kind\" name=\"kind\"><option>DependsOn</option>"),
-            Part::Markup("<option>DependedOnBy</option><option>MemberOf</option>"),
-            Part::Markup("<option>HasMember</option><option>RefersTo</option>"),
-            Part::Markup("<option>ReferredToBy</option></select>\n"),
-        ],
-    )
-}
-
-#[tactic(auto, unfolding(crate::specs::Fields::link_end))]
-fn put_link_end(out: &mut Vec<u8>, id: &str) -> Result<(), AllocError>
-    ensures { OnOk result (out.new.items ≡ out.old.items ++ page_bytes (form.link_end id.now)) }
-{
-    put_parts(
-        out,
-        &[
-            Part::Markup("<label for=\"other\">Request</label>\n"),
-            Part::Markup("<input id=\"other\" name=\"other\" inputmode=\"numeric\""),
-            Part::Markup(" pattern=\"[0-9]+\" title=\"The number of a request\""),
-            Part::Markup(" autocomplete=\"off\" required>\n<button>Link</button>\n"),
-            Part::Markup("<button formaction=\"/desk/requests/"),
-            Part::Text(id),
-            Part::Markup("/unlink\">Unlink</button>\n</form>\n"),
-        ],
-    )
 }

@@ -5,10 +5,13 @@ ghost use Rattle.desk_texts.specs.Texts.History as words;
 ghost use Rattle.page_core.specs.Page.{page_bytes};
 ghost use Rattle.desk_pages.specs.History as form;
 
-use crate::pieces::put_minute;
+use crate::markup::history::{
+    COMMENTED, ENTRY, ENTRY_END, ENTRY_TIME, FILED, HISTORY_END, HISTORY_TOP, LEVEL_CHANGED,
+    LINKED, MOVED, OWNER_CHANGED, PUT_IN, REPLIED, TAKEN_OUT, UNLINKED, WRITTEN,
+};
 use desk_model::{Entry, EntryKind};
-use itoa::Buffer;
-use page_core::{Part, put_parts};
+use hours_core::Minute;
+use page_core::{Value, fill};
 use std::alloc::AllocError;
 
 /// Puts the entries of a request, each in the words of its kind.
@@ -16,9 +19,9 @@ pub(crate) fn put_history(out: &mut Vec<u8>, entries: &[Entry]) -> Result<(), Al
     ensures { OnOk result (out.new.items
         ≡ out.old.items ++ page_bytes (form.history entries.now)) }
 {
-    put_history_open(out)?;
+    fill(out, HISTORY_TOP, &[], &[])?;
     put_entries(out, entries)?;
-    put_history_close(out)
+    fill(out, HISTORY_END, &[], &[])
 }
 
 fn put_entries(out: &mut Vec<u8>, entries: &[Entry]) -> Result<(), AllocError>
@@ -31,19 +34,46 @@ fn put_entries(out: &mut Vec<u8>, entries: &[Entry]) -> Result<(), AllocError>
     Ok(())
 }
 
+#[tactic(auto, unfolding(crate::specs::History::entry))]
 fn put_entry(out: &mut Vec<u8>, entry: &Entry) -> Result<(), AllocError>
     ensures { OnOk result (out.new.items ≡ out.old.items ++ page_bytes (form.entry entry.now)) }
 {
-    let mut number = Buffer::new();
-    let word = kind_word(entry.kind);
-    let body = entry.body.as_str();
-    put_entry_open(out, number.format(entry.number), word, entry.actor.as_str())?;
-    put_telling(out, entry.kind, entry.head.as_str(), body)?;
-    put_told_close(out)?;
-    put_minute(out, entry.moment)?;
-    put_moment_close(out)?;
-    put_text_of(out, entry.kind, body)?;
-    put_entry_close(out)
+    put_head(out, entry)?;
+    put_telling(out, entry.kind, entry.head.as_str(), entry.body.as_str())?;
+    put_moment(out, entry.moment)?;
+    put_text_of(out, entry.kind, entry.body.as_str())?;
+    fill(out, ENTRY_END, &[], &[])
+}
+
+#[tactic(auto, unfolding(crate::specs::History::head))]
+fn put_head(out: &mut Vec<u8>, entry: &Entry) -> Result<(), AllocError>
+    ensures { OnOk result (out.new.items ≡ out.old.items ++ page_bytes (form.head entry.now)) }
+{
+    let values = [
+        Value::Number(entry.number),
+        Value::Text(kind_word(entry.kind)),
+        Value::Number(entry.number),
+        Value::Text(entry.actor.as_str()),
+    ];
+    fill(out, ENTRY, &values, &[])
+}
+
+#[tactic(auto, unfolding(crate::specs::History::entry_moment))]
+fn put_moment(out: &mut Vec<u8>, moment: Minute) -> Result<(), AllocError>
+    ensures { OnOk result (out.new.items
+        ≡ out.old.items ++ page_bytes (form.entry_moment moment)) }
+{
+    fill(
+        out,
+        ENTRY_TIME,
+        &[
+            Value::Day(moment),
+            Value::Clock(moment),
+            Value::Day(moment),
+            Value::Clock(moment),
+        ],
+        &[],
+    )
 }
 
 fn kind_word(kind: EntryKind) -> &'static str
@@ -64,208 +94,42 @@ fn kind_word(kind: EntryKind) -> &'static str
 }
 
 /// Puts what an entry of this kind tells.
-fn put_telling(out: &mut Vec<u8>, kind: EntryKind, head: &str, body: &str) -> Result<(), AllocError>
+#[tactic(auto, unfolding(crate::specs::History::telling))]
+fn put_telling<'t>(
+    out: &mut Vec<u8>,
+    kind: EntryKind,
+    head: &'t str,
+    body: &'t str,
+) -> Result<(), AllocError>
     ensures { OnOk result (out.new.items
         ≡ out.old.items ++ page_bytes (form.telling kind head.now body.now)) }
 {
+    let changed = [Value::Text(head), Value::Text(body)];
+    let watched = [Value::Text(body), Value::Text(head)];
+    let linked = [Value::Text(head), Value::Text(body), Value::Text(body)];
     match kind {
-        EntryKind::Create => put_filed(out, body),
-        EntryKind::Status => put_changed(out, "moved it", head, body),
-        EntryKind::Owner => put_changed(out, "changed the owner", head, body),
-        EntryKind::Reply => put_wrote(out, "replied"),
-        EntryKind::Comment => put_wrote(out, "commented"),
-        EntryKind::Watch => put_watched(out, "put", body, "into", head),
-        EntryKind::Unwatch => put_watched(out, "took", body, "out of", head),
-        EntryKind::Link => put_linked(out, "linked", head, body),
-        EntryKind::Unlink => put_linked(out, "unlinked", head, body),
-        EntryKind::Level => put_changed(out, "changed the level", head, body),
+        EntryKind::Create => fill(out, FILED, &[Value::Text(body)], &[]),
+        EntryKind::Status => fill(out, MOVED, &changed, &[]),
+        EntryKind::Owner => fill(out, OWNER_CHANGED, &changed, &[]),
+        EntryKind::Reply => fill(out, REPLIED, &[], &[]),
+        EntryKind::Comment => fill(out, COMMENTED, &[], &[]),
+        EntryKind::Watch => fill(out, PUT_IN, &watched, &[]),
+        EntryKind::Unwatch => fill(out, TAKEN_OUT, &watched, &[]),
+        EntryKind::Link => fill(out, LINKED, &linked, &[]),
+        EntryKind::Unlink => fill(out, UNLINKED, &linked, &[]),
+        EntryKind::Level => fill(out, LEVEL_CHANGED, &changed, &[]),
     }
 }
 
 /// Puts the text of a reply or a comment.
+#[tactic(auto, unfolding(crate::specs::History::text_of))]
 fn put_text_of(out: &mut Vec<u8>, kind: EntryKind, body: &str) -> Result<(), AllocError>
     ensures { OnOk result (out.new.items
         ≡ out.old.items ++ page_bytes (form.text_of kind body.now)) }
 {
     match kind {
-        EntryKind::Reply => put_written(out, body),
-        EntryKind::Comment => put_written(out, body),
+        EntryKind::Reply => fill(out, WRITTEN, &[Value::Text(body)], &[]),
+        EntryKind::Comment => fill(out, WRITTEN, &[Value::Text(body)], &[]),
         _ => Ok(()),
     }
-}
-
-#[tactic(auto, unfolding(crate::specs::History::history_open))]
-fn put_history_open(out: &mut Vec<u8>) -> Result<(), AllocError>
-    ensures { OnOk result (out.new.items ≡ out.old.items ++ page_bytes form.history_open) }
-{
-    put_parts(
-        out,
-        &[
-            Part::Markup("<div class=\"request\">\n<section>\n<h2>History</h2>\n"),
-            Part::Markup("<ol class=\"history\">\n"),
-        ],
-    )
-}
-
-#[tactic(auto, unfolding(crate::specs::History::history_close))]
-fn put_history_close(out: &mut Vec<u8>) -> Result<(), AllocError>
-    ensures { OnOk result (out.new.items ≡ out.old.items ++ page_bytes form.history_close) }
-{
-    put_parts(out, &[Part::Markup("</ol>\n")])
-}
-
-#[tactic(auto, unfolding(crate::specs::History::entry_open))]
-fn put_entry_open<'t>(
-    out: &mut Vec<u8>,
-    number: &'t str,
-    word: &'t str,
-    actor: &'t str,
-) -> Result<(), AllocError>
-    ensures { OnOk result (out.new.items
-        ≡ out.old.items ++ page_bytes (form.entry_open number.now word.now actor.now)) }
-{
-    put_parts(
-        out,
-        &[
-            Part::Markup("<li id=\"e"),
-            Part::Text(number),
-            Part::Markup("\" class=\""),
-            Part::Text(word),
-            Part::Markup("\"><p><i>"),
-            Part::Text(number),
-            Part::Markup("</i> <span><b>"),
-            Part::Text(actor),
-            Part::Markup("</b>\n"),
-        ],
-    )
-}
-
-#[tactic(auto, unfolding(crate::specs::History::filed))]
-fn put_filed(out: &mut Vec<u8>, status: &str) -> Result<(), AllocError>
-    ensures { OnOk result (out.new.items ≡ out.old.items ++ page_bytes (form.filed status.now)) }
-{
-    put_parts(
-        out,
-        &[
-            Part::Markup("filed it as <b>"),
-            Part::Text(status),
-            Part::Markup("</b>\n"),
-        ],
-    )
-}
-
-#[tactic(auto, unfolding(crate::specs::History::wrote))]
-fn put_wrote(out: &mut Vec<u8>, what: &str) -> Result<(), AllocError>
-    ensures { OnOk result (out.new.items ≡ out.old.items ++ page_bytes (form.wrote what.now)) }
-{
-    put_parts(out, &[Part::Text(what), Part::Markup("\n")])
-}
-
-#[tactic(auto, unfolding(crate::specs::History::changed))]
-fn put_changed<'t>(
-    out: &mut Vec<u8>,
-    what: &'t str,
-    head: &'t str,
-    body: &'t str,
-) -> Result<(), AllocError>
-    ensures { OnOk result (out.new.items
-        ≡ out.old.items ++ page_bytes (form.changed what.now head.now body.now)) }
-{
-    put_parts(
-        out,
-        &[
-            Part::Text(what),
-            Part::Markup(" from <b>"),
-            Part::Text(head),
-            Part::Markup("</b> to <b>"),
-            Part::Text(body),
-            Part::Markup("</b>\n"),
-        ],
-    )
-}
-
-#[tactic(auto, unfolding(crate::specs::History::watched))]
-fn put_watched<'t>(
-    out: &mut Vec<u8>,
-    what: &'t str,
-    person: &'t str,
-    way: &'t str,
-    role: &'t str,
-) -> Result<(), AllocError>
-    ensures { OnOk result (out.new.items ≡ out.old.items
-        ++ page_bytes (form.watched what.now person.now way.now role.now)) }
-{
-    put_parts(
-        out,
-        &[
-            Part::Text(what),
-            Part::Markup(" <b>"),
-            Part::Text(person),
-            Part::Markup("</b> "),
-            Part::Text(way),
-            Part::Markup(" <b>"),
-            Part::Text(role),
-            Part::Markup("</b>\n"),
-        ],
-    )
-}
-
-#[tactic(auto, unfolding(crate::specs::History::linked))]
-fn put_linked<'t>(
-    out: &mut Vec<u8>,
-    what: &'t str,
-    link: &'t str,
-    other: &'t str,
-) -> Result<(), AllocError>
-    ensures { OnOk result (out.new.items
-        ≡ out.old.items ++ page_bytes (form.linked what.now link.now other.now)) }
-{
-    put_parts(
-        out,
-        &[
-            Part::Text(what),
-            Part::Markup(" it: <b>"),
-            Part::Text(link),
-            Part::Markup("</b> <a href=\"/desk/requests/"),
-            Part::Text(other),
-            Part::Markup("\">"),
-            Part::Text(other),
-            Part::Markup("</a>\n"),
-        ],
-    )
-}
-
-#[tactic(auto, unfolding(crate::specs::History::told_close))]
-fn put_told_close(out: &mut Vec<u8>) -> Result<(), AllocError>
-    ensures { OnOk result (out.new.items ≡ out.old.items ++ page_bytes form.told_close) }
-{
-    put_parts(out, &[Part::Markup("</span> ")])
-}
-
-#[tactic(auto, unfolding(crate::specs::History::moment_close))]
-fn put_moment_close(out: &mut Vec<u8>) -> Result<(), AllocError>
-    ensures { OnOk result (out.new.items ≡ out.old.items ++ page_bytes form.moment_close) }
-{
-    put_parts(out, &[Part::Markup("</p>\n")])
-}
-
-#[tactic(auto, unfolding(crate::specs::History::written))]
-fn put_written(out: &mut Vec<u8>, text: &str) -> Result<(), AllocError>
-    ensures { OnOk result (out.new.items ≡ out.old.items ++ page_bytes (form.written text.now)) }
-{
-    put_parts(
-        out,
-        &[
-            Part::Markup("<div dir=\"auto\">"),
-            Part::Text(text),
-            Part::Markup("</div>\n"),
-        ],
-    )
-}
-
-#[tactic(auto, unfolding(crate::specs::History::entry_close))]
-fn put_entry_close(out: &mut Vec<u8>) -> Result<(), AllocError>
-    ensures { OnOk result (out.new.items ≡ out.old.items ++ page_bytes form.entry_close) }
-{
-    put_parts(out, &[Part::Markup("</li>\n")])
 }

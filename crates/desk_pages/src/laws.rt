@@ -1,7 +1,7 @@
-//! What holds of every page of the desk: each text stands in text or in a value. So whatever people
-//! write, the markup that is read in a page is that of the page with every text empty, and it tells
-//! no more than what is named here.
-ghost use Rattle.std.specs.Prelude.{ℕ, Bool, List, Option, [], true};
+//! What holds of every page of the desk: each text stands in text or in a value, and no address is
+//! one. So whatever people write, it is never read as markup, and the markup tells no more than what
+//! is named here: two pages of which that is the same have the same markup.
+ghost use Rattle.std.specs.Prelude.{◌≡◌, ℕ, Bool, List, Option, is_some, length};
 ghost use Rattle.settings_core.specs.declared.settings.Settings.{Settings};
 ghost use Rattle.desk_model.specs.declared.answer.Dossier.{Dossier};
 ghost use Rattle.desk_model.specs.declared.answer.LateLine.{LateLine};
@@ -12,115 +12,131 @@ ghost use Rattle.find_core.specs.declared.search.Findings.{Findings};
 ghost use Rattle.find_form.specs.declared.form.FindForm.{FindForm};
 ghost use Rattle.find_form.specs.declared.shown.FoundPage.{FoundPage};
 ghost use Rattle.find_form.specs.declared.shown.Start.{Start};
-ghost use Rattle.page_core.specs.Markup.{HasMarkup, markup_of};
-ghost use Rattle.desk_pages.specs.Fault.{fault_markup, fault_page};
-ghost use Rattle.desk_pages.specs.Find.{
-  find_fault_markup,
-  find_fault_page,
-  find_markup,
-  find_page,
-};
-ghost use Rattle.desk_pages.specs.Home.{home_markup, home_page};
-ghost use Rattle.desk_pages.specs.New.{new_markup, new_page};
-ghost use Rattle.desk_pages.specs.Overdue.{overdue_markup, overdue_page};
+ghost use Rattle.page_core.specs.Markup.{SameMarkup};
+ghost use Rattle.desk_pages.specs.Ask.{usual_told};
+ghost use Rattle.desk_pages.specs.Fault.{fault_page};
+ghost use Rattle.desk_pages.specs.Find.{find_fault_page, find_page, found_told};
+ghost use Rattle.desk_pages.specs.Home.{home_page, home_told};
+ghost use Rattle.desk_pages.specs.New.{new_page};
+ghost use Rattle.desk_pages.specs.Overdue.{overdue_page};
 ghost use Rattle.desk_pages.specs.RefusalPage.{
-  ask_refusal_markup,
   ask_refusal_page,
   comment_refusal_page,
-  filed_markup,
   filed_page,
-  refusal_markup,
+  is_found,
   refusal_page,
-  replied_markup,
   replied_page,
   reply_refusal_page,
-  request_refusal_markup,
   request_refusal_page,
-  typed_markup,
 };
-ghost use Rattle.desk_pages.specs.Request.{request_markup, request_page};
-ghost use Rattle.desk_pages.specs.SignIn.{sign_in_markup, sign_in_page};
-ghost use Rattle.desk_pages.specs.Write as form;
-ghost use Rattle.desk_pages.specs.Workload.{workload_markup, workload_page};
+ghost use Rattle.desk_pages.specs.Refused.{is_denied};
+ghost use Rattle.desk_pages.specs.Request.{request_page, request_told};
+ghost use Rattle.desk_pages.specs.Search.{chosen_in};
+ghost use Rattle.desk_pages.specs.SignIn.{sign_in_page};
+ghost use Rattle.desk_pages.specs.Workload.{late_told, workload_page};
 
 /// The page of a search tells by its markup what was ticked and chosen in its form, whether it is
 /// that of a queue, how many requests and requestors there are, which of them are due and which late,
 /// and whether there are pages before it and after it.
 pub fn find_page_law()
-    ensures found { (caller : List ℕ) (moment : ℕ) (query : List ℕ) (start : Start) (form : FindForm)
-        (page : FoundPage)
-        → HasMarkup (find_page caller moment query start form page)
-        (find_markup moment start form page) }
-    ensures fault { (caller : List ℕ) (moment : ℕ) (sentence : List ℕ) (form : FindForm)
-        → HasMarkup (find_fault_page caller moment sentence form) (find_fault_markup form) }
+    ensures found { (caller other : List ℕ) (moment later : ℕ) (query asked : List ℕ)
+        (start begin : Start) (form typed : FindForm) (page another : FoundPage)
+        → found_told moment start form page ≡ found_told later begin typed another
+        → SameMarkup (find_page caller moment query start form page)
+        (find_page other later asked begin typed another) }
+    ensures fault { (caller other : List ℕ) (moment later : ℕ) (sentence words : List ℕ)
+        (form typed : FindForm) → chosen_in form ≡ chosen_in typed
+        → SameMarkup (find_fault_page caller moment sentence form)
+        (find_fault_page other later words typed) }
 {}
 
 /// The page of what is late tells by its markup how many requests there are.
 pub fn overdue_page_law()
-    ensures { (caller : List ℕ) (moment : ℕ) (lines : List LateLine)
-        → HasMarkup (overdue_page caller moment lines) (overdue_markup lines) }
+    ensures { (caller other : List ℕ) (moment later : ℕ) (lines others : List LateLine)
+        → length lines ≡ length others
+        → SameMarkup (overdue_page caller moment lines) (overdue_page other later others) }
 {}
 
 /// The page of who has how much to do tells by its markup how many owners there are, and of which
 /// something is late.
 pub fn workload_page_law()
-    ensures { (caller : List ℕ) (moment : ℕ) (loads : List Load)
-        → HasMarkup (workload_page caller moment loads) (workload_markup loads) }
+    ensures { (caller other : List ℕ) (moment later : ℕ) (loads others : List Load)
+        → late_told loads ≡ late_told others
+        → SameMarkup (workload_page caller moment loads) (workload_page other later others) }
 {}
 
 /// The first page tells by its markup how many of its lists' requests and requestors there are, which
 /// of them are due and which late, in which queues anything is late, and how many lifecycles and
 /// levels there are.
 pub fn home_page_law()
-    ensures { (caller : List ℕ) (moment : ℕ) (own asked : Findings) (loads : List QueueLoad)
-        (free : Findings) (lifecycles levels : List (List ℕ))
-        → HasMarkup (home_page caller moment own asked loads free lifecycles levels)
-        (home_markup moment own asked loads free lifecycles levels) }
+    ensures { (caller other : List ℕ) (moment later : ℕ) (own owned asked sought : Findings)
+        (loads others : List QueueLoad) (free unowned : Findings)
+        (lifecycles cycles levels more : List (List ℕ))
+        → home_told moment own asked loads free lifecycles levels
+        ≡ home_told later owned sought others unowned cycles more
+        → SameMarkup (home_page caller moment own asked loads free lifecycles levels)
+        (home_page other later owned sought others unowned cycles more) }
 {}
 
 /// The page on which one signs in tells by its markup whether a token was refused, and whether it
 /// stands at another place.
 pub fn sign_in_page_law()
-    ensures { (next : List ℕ) (refused elsewhere : Bool)
-        → HasMarkup (sign_in_page next refused elsewhere) (sign_in_markup refused elsewhere) }
+    ensures { (next other : List ℕ) (refused elsewhere : Bool)
+        → SameMarkup (sign_in_page next refused elsewhere) (sign_in_page other refused elsewhere) }
 {}
 
 /// The page of a fault has the same markup whatever is wrong.
 pub fn fault_page_law()
-    ensures { (heading sentence code : List ℕ)
-        → HasMarkup (fault_page heading sentence code) fault_markup }
+    ensures { (heading another sentence words code name : List ℕ)
+        → SameMarkup (fault_page heading sentence code) (fault_page another words name) }
 {}
 
 /// The page for a new request tells by its markup how many statuses there are to choose from, and
 /// which of them is the usual one.
 pub fn new_page_law()
-    ensures { (queue caller : List ℕ) (moment : ℕ) (usual : List ℕ) (statuses : List (List ℕ))
-        → HasMarkup (new_page queue caller moment usual statuses) (new_markup usual statuses) }
+    ensures { (queue another caller other : List ℕ) (moment later : ℕ) (usual first : List ℕ)
+        (statuses names : List (List ℕ)) → usual_told usual statuses ≡ usual_told first names
+        → SameMarkup (new_page queue caller moment usual statuses)
+        (new_page another other later first names) }
 {}
 
 /// The page of a refusal tells by its markup whether a right is lacking, and whether what was asked
 /// for is there; and no more of what was typed than the form that it was typed into, and whether a
 /// status was chosen with a reply. So do the pages that say that of two commands one was done.
 pub fn refusal_page_law()
-    ensures plain { (why : Refusal) (caller : List ℕ) (moment : ℕ)
-        → HasMarkup (refusal_page why caller moment) (refusal_markup why) }
-    ensures request { (why : Refusal) (caller : List ℕ) (moment id : ℕ)
-        → HasMarkup (request_refusal_page why caller moment id) (request_refusal_markup why) }
-    ensures reply { (why : Refusal) (caller : List ℕ) (moment id : ℕ) (text : List ℕ)
-        (status : Option (List ℕ))
-        → HasMarkup (reply_refusal_page why caller moment id text status)
-        (typed_markup why (form.reply_markup status true)) }
-    ensures comment { (why : Refusal) (caller : List ℕ) (moment id : ℕ) (text : List ℕ)
-        → HasMarkup (comment_refusal_page why caller moment id text)
-        (typed_markup why (markup_of (form.comment [] []))) }
-    ensures ask { (why : Refusal) (caller : List ℕ) (moment : ℕ)
-        (queue subject text requestors usual : List ℕ) (statuses : List (List ℕ))
-        → HasMarkup (ask_refusal_page why caller moment queue subject text requestors usual
-        statuses) (ask_refusal_markup why usual statuses) }
-    ensures filed { (why : Refusal) (caller : List ℕ) (moment id : ℕ) (text : List ℕ)
-        → HasMarkup (filed_page why caller moment id text) (filed_markup why) }
-    ensures replied { (why : Refusal) (caller : List ℕ) (moment id : ℕ) (status : List ℕ)
-        → HasMarkup (replied_page why caller moment id status) (replied_markup why) }
+    ensures plain { (why other : Refusal) (caller another : List ℕ) (moment later : ℕ)
+        → is_denied why ≡ is_denied other
+        → SameMarkup (refusal_page why caller moment) (refusal_page other another later) }
+    ensures request { (why other : Refusal) (caller another : List ℕ) (moment later id n : ℕ)
+        → is_denied why ≡ is_denied other → is_found why ≡ is_found other
+        → SameMarkup (request_refusal_page why caller moment id)
+        (request_refusal_page other another later n) }
+    ensures reply { (why other : Refusal) (caller another : List ℕ) (moment later id n : ℕ)
+        (text words : List ℕ) (status chosen : Option (List ℕ))
+        → is_denied why ≡ is_denied other → is_found why ≡ is_found other
+        → is_some status ≡ is_some chosen
+        → SameMarkup (reply_refusal_page why caller moment id text status)
+        (reply_refusal_page other another later n words chosen) }
+    ensures comment { (why other : Refusal) (caller another : List ℕ) (moment later id n : ℕ)
+        (text words : List ℕ)
+        → is_denied why ≡ is_denied other → is_found why ≡ is_found other
+        → SameMarkup (comment_refusal_page why caller moment id text)
+        (comment_refusal_page other another later n words) }
+    ensures ask { (why other : Refusal) (caller another : List ℕ) (moment later : ℕ)
+        (queue place subject line text words requestors persons usual first : List ℕ)
+        (statuses names : List (List ℕ))
+        → is_denied why ≡ is_denied other → is_found why ≡ is_found other
+        → usual_told usual statuses ≡ usual_told first names
+        → SameMarkup (ask_refusal_page why caller moment queue subject text requestors usual statuses)
+        (ask_refusal_page other another later place line words persons first names) }
+    ensures filed { (why other : Refusal) (caller another : List ℕ) (moment later id n : ℕ)
+        (text words : List ℕ) → is_denied why ≡ is_denied other
+        → SameMarkup (filed_page why caller moment id text)
+        (filed_page other another later n words) }
+    ensures replied { (why other : Refusal) (caller another : List ℕ) (moment later id n : ℕ)
+        (status chosen : List ℕ) → is_denied why ≡ is_denied other
+        → SameMarkup (replied_page why caller moment id status)
+        (replied_page other another later n chosen) }
 {}
 
 /// The page of a request tells by its markup whether the request is due, whether it is late, whether
@@ -130,7 +146,9 @@ pub fn refusal_page_law()
 /// which level is the present one, but not who owns the request; and whether it can be closed with a
 /// reply.
 pub fn request_page_law()
-    ensures { (caller : List ℕ) (moment : ℕ) (settings : Settings) (dossier : Dossier)
-        → HasMarkup (request_page caller moment settings dossier)
-        (request_markup caller moment settings dossier) }
+    ensures { (caller other : List ℕ) (moment later : ℕ) (settings rules : Settings)
+        (dossier file : Dossier)
+        → request_told caller moment settings dossier ≡ request_told other later rules file
+        → SameMarkup (request_page caller moment settings dossier)
+        (request_page other later rules file) }
 {}

@@ -1,7 +1,8 @@
 //! The pages of a desk, for browsers: markup of the program, and people's texts in it.
 //!
-//! Each page is its definition, byte for byte. Its law says that each text stands where it may, and
-//! of what alone its markup tells: how many rows there are, which are due or late, and so on.
+//! Each page is its definition, byte for byte, over the templates of `markup`. Its law says that each
+//! text stands where it may, and of what alone its markup tells: how many rows there are, which are
+//! due or late, and so on. Two pages of which that is the same have the same markup.
 #![tactic(auto)]
 
 mod ask;
@@ -17,6 +18,7 @@ mod home;
 mod laws;
 mod lists;
 mod local;
+mod markup;
 mod moves;
 mod new;
 mod overdue;

@@ -4,9 +4,9 @@ ghost use Rattle.std.specs.Option.{option_map};
 ghost use Rattle.page_core.specs.Page.{page_bytes};
 ghost use Rattle.desk_pages.specs.Local as form;
 
-use crate::pieces::as_text;
-use hours_core::{Minute, Zone, minute_text};
-use page_core::{Part, put_parts};
+use crate::markup::facts::LOCAL;
+use hours_core::{Minute, Zone};
+use page_core::{Value, fill};
 use std::alloc::AllocError;
 
 /// What clocks show at a moment in a zone, where there are both.
@@ -20,25 +20,12 @@ pub(crate) fn local_at(zone: Option<&Zone>, moment: Option<Minute>) -> Option<Mi
 }
 
 /// Puts local time, if there is any.
+#[tactic(auto, unfolding(crate::specs::Local::local))]
 pub(crate) fn put_local(out: &mut Vec<u8>, shown: Option<Minute>) -> Result<(), AllocError>
     ensures { OnOk result (out.new.items ≡ out.old.items ++ page_bytes (form.local shown)) }
 {
     match shown {
-        Some(shown) => put_clock(out, as_text(&minute_text(shown))),
+        Some(shown) => fill(out, LOCAL, &[Value::Day(shown), Value::Clock(shown)], &[]),
         None => Ok(()),
     }
-}
-
-#[tactic(auto, unfolding(crate::specs::Local::clock))]
-fn put_clock(out: &mut Vec<u8>, shown: &str) -> Result<(), AllocError>
-    ensures { OnOk result (out.new.items ≡ out.old.items ++ page_bytes (form.clock shown.now)) }
-{
-    put_parts(
-        out,
-        &[
-            Part::Markup(" <small>"),
-            Part::Text(shown),
-            Part::Markup(" local</small>"),
-        ],
-    )
 }

@@ -4,9 +4,10 @@ ghost use Rattle.std.specs.Option.{option_map};
 ghost use Rattle.page_core.specs.Page.{page_bytes};
 ghost use Rattle.desk_pages.specs.Moves as form;
 
+use crate::markup::moves::{FOLD_END, FOLD_TOP, MOVES_END, MOVES_TOP, OFFER};
 use crate::rows::class_word;
 use lifecycle_core::Lifecycle;
-use page_core::{Part, put_parts};
+use page_core::{Value, fill};
 use std::alloc::AllocError;
 use text_core::Text;
 
@@ -14,12 +15,12 @@ use text_core::Text;
 /// lifecycle lets it move. Nothing is put where there is none, or no lifecycle.
 pub(crate) fn put_moves(
     out: &mut Vec<u8>,
-    id: &str,
+    id: u32,
     lifecycle: Option<&Lifecycle>,
     from: &str,
 ) -> Result<(), AllocError>
     ensures { OnOk result (out.new.items ≡ out.old.items ++ page_bytes
-        (form.moves id.now (option_map (λ l. l.now) lifecycle.entry) from.now)) }
+        (form.moves id (option_map (λ l. l.now) lifecycle.entry) from.now)) }
 {
     match lifecycle {
         Some(lifecycle) => put_moves_by(out, id, lifecycle, from),
@@ -29,12 +30,12 @@ pub(crate) fn put_moves(
 
 fn put_moves_by(
     out: &mut Vec<u8>,
-    id: &str,
+    id: u32,
     lifecycle: &Lifecycle,
     from: &str,
 ) -> Result<(), AllocError>
     ensures { OnOk result (out.new.items
-        ≡ out.old.items ++ page_bytes (form.moves id.now (Some lifecycle.now) from.now)) }
+        ≡ out.old.items ++ page_bytes (form.moves id (Some lifecycle.now) from.now)) }
 {
     if leads_on(lifecycle, from) {
         put_move_form(out, id, lifecycle, from)?;
@@ -75,21 +76,22 @@ fn leads_on(lifecycle: &Lifecycle, from: &str) -> bool
         .any(|m| m.from.as_str() == from)
 }
 
+#[tactic(auto, unfolding(crate::specs::Moves::move_form))]
 fn put_move_form(
     out: &mut Vec<u8>,
-    id: &str,
+    id: u32,
     lifecycle: &Lifecycle,
     from: &str,
 ) -> Result<(), AllocError>
     ensures { OnOk result (out.new.items
-        ≡ out.old.items ++ page_bytes (form.move_form id.now lifecycle.now from.now)) }
+        ≡ out.old.items ++ page_bytes (form.move_form id lifecycle.now from.now)) }
 {
     let parts = lifecycle.parts();
-    put_moves_head(out, id)?;
+    fill(out, MOVES_TOP, &[Value::Number(id)], &[])?;
     put_offers(out, lifecycle, from, parts.initial.as_slice())?;
     put_offers(out, lifecycle, from, parts.active.as_slice())?;
     put_closings(out, lifecycle, from, parts.inactive.as_slice())?;
-    put_moves_end(out)
+    fill(out, MOVES_END, &[], &[])
 }
 
 /// Puts a button for each of these statuses that is offered.
@@ -108,6 +110,8 @@ fn put_offers(
     Ok(())
 }
 
+/// Puts a button for a status, if the lifecycle lets a request move to it.
+#[tactic(auto, unfolding(crate::specs::Moves::offer))]
 fn put_offer(
     out: &mut Vec<u8>,
     lifecycle: &Lifecycle,
@@ -117,10 +121,12 @@ fn put_offer(
     ensures { OnOk result (out.new.items
         ≡ out.old.items ++ page_bytes (form.offer lifecycle.now from.now to.now)) }
 {
-    if lifecycle.may_move(from, to) {
-        put_button(out, class_word(lifecycle.class(to)), to)?;
-    }
-    Ok(())
+    let values = [
+        Value::Text(to),
+        Value::Text(class_word(lifecycle.class(to))),
+        Value::Text(to),
+    ];
+    fill(out, OFFER, &values, &[lifecycle.may_move(from, to)])
 }
 
 /// Puts what is offered of the inactive statuses: those after the first behind a fold, so that a
@@ -143,6 +149,7 @@ fn put_closings(
     }
 }
 
+#[tactic(auto, unfolding(crate::specs::Moves::folded))]
 fn put_folded(
     out: &mut Vec<u8>,
     lifecycle: &Lifecycle,
@@ -152,12 +159,10 @@ fn put_folded(
     ensures { OnOk result (out.new.items
         ≡ out.old.items ++ page_bytes (form.folded lifecycle.now from.now statuses.now)) }
 {
-    if has_offer(lifecycle, from, statuses) {
-        put_fold_head(out)?;
-        put_offers(out, lifecycle, from, statuses)?;
-        put_fold_end(out)?;
-    }
-    Ok(())
+    let any = has_offer(lifecycle, from, statuses);
+    fill(out, FOLD_TOP, &[], &[any])?;
+    put_offers(out, lifecycle, from, statuses)?;
+    fill(out, FOLD_END, &[], &[any])
 }
 
 /// Whether one of these statuses is offered.
@@ -167,61 +172,4 @@ fn has_offer(lifecycle: &Lifecycle, from: &str, statuses: &[Text]) -> bool
     statuses
         .iter()
         .any(|to| lifecycle.may_move(from, to.as_str()))
-}
-
-#[tactic(auto, unfolding(crate::specs::Moves::moves_head))]
-fn put_moves_head(out: &mut Vec<u8>, id: &str) -> Result<(), AllocError>
-    ensures { OnOk result (out.new.items ≡ out.old.items ++ page_bytes (form.moves_head id.now)) }
-{
-    put_parts(
-        out,
-        &[
-            Part::Markup("<form method=\"post\" action=\"/desk/requests/"),
-            Part::Text(id),
-            Part::Markup("/status\">\n<fieldset>\n<legend>Move it to</legend>\n"),
-        ],
-    )
-}
-
-#[tactic(auto, unfolding(crate::specs::Moves::button))]
-fn put_button<'t>(out: &mut Vec<u8>, state: &'t str, status: &'t str) -> Result<(), AllocError>
-    ensures { OnOk result (out.new.items
-        ≡ out.old.items ++ page_bytes (form.button state.now status.now)) }
-{
-    put_parts(
-        out,
-        &[
-            Part::Markup("<button name=\"status\" value=\""),
-            Part::Text(status),
-            Part::Markup("\"><span class=\"state "),
-            Part::Text(state),
-            Part::Markup("\">"),
-            Part::Text(status),
-            Part::Markup("</span></button>\n"),
-        ],
-    )
-}
-
-#[tactic(auto, unfolding(crate::specs::Moves::fold_head))]
-fn put_fold_head(out: &mut Vec<u8>) -> Result<(), AllocError>
-    ensures { OnOk result (out.new.items ≡ out.old.items ++ page_bytes form.fold_head) }
-{
-    put_parts(
-        out,
-        &[Part::Markup("<details class=\"more\">\n<summary>More</summary>\n<div>\n")],
-    )
-}
-
-#[tactic(auto, unfolding(crate::specs::Moves::fold_end))]
-fn put_fold_end(out: &mut Vec<u8>) -> Result<(), AllocError>
-    ensures { OnOk result (out.new.items ≡ out.old.items ++ page_bytes form.fold_end) }
-{
-    put_parts(out, &[Part::Markup("</div>\n</details>\n")])
-}
-
-#[tactic(auto, unfolding(crate::specs::Moves::moves_end))]
-fn put_moves_end(out: &mut Vec<u8>) -> Result<(), AllocError>
-    ensures { OnOk result (out.new.items ≡ out.old.items ++ page_bytes form.moves_end) }
-{
-    put_parts(out, &[Part::Markup("</fieldset>\n</form>\n")])
 }

@@ -3,9 +3,10 @@ ghost use Rattle.std.specs.Prelude.{◌≡◌, ◌++◌, IfOk, OnOk};
 ghost use Rattle.page_core.specs.Page.{page_bytes};
 ghost use Rattle.desk_pages.specs.Owners as form;
 
-use crate::people::{put_people_end, put_persons};
+use crate::markup::people::{OWNERS_END, OWNERS_TOP};
+use crate::people::put_persons;
 use desk_model::Shown;
-use page_core::{Part, put_parts};
+use page_core::fill;
 use rights_core::{Roles, right};
 use settings_core::Settings;
 use std::alloc::{AllocError, Global};
@@ -26,12 +27,12 @@ pub(crate) fn put_owners(
     ensures { OnOk result (out.new.items ≡ out.old.items
         ++ page_bytes (form.owners caller.now settings.now shown.now)) }
 {
-    put_owners_head(out)?;
+    fill(out, OWNERS_TOP, &[], &[])?;
     if may_own(settings, shown, caller) {
         let names = suggested(alloc, settings, shown)?;
         put_persons(out, names.as_slice())?;
     }
-    put_people_end(out)
+    fill(out, OWNERS_END, &[], &[])
 }
 
 /// The first persons who may own the request.
@@ -72,11 +73,4 @@ fn roles_in(shown: &Shown, name: &str) -> Roles
         cc: shown.cc.contains(name),
         admin_cc: shown.admin_cc.contains(name),
     }
-}
-
-#[tactic(auto, unfolding(crate::specs::Owners::owners_head))]
-fn put_owners_head(out: &mut Vec<u8>) -> Result<(), AllocError>
-    ensures { OnOk result (out.new.items ≡ out.old.items ++ page_bytes form.owners_head) }
-{
-    put_parts(out, &[Part::Markup("<datalist id=\"owners\">\n")])
 }

@@ -3,10 +3,9 @@ ghost use Rattle.std.specs.Prelude.{◌≡◌, ◌++◌, OnOk};
 ghost use Rattle.page_core.specs.Page.{page_bytes};
 ghost use Rattle.desk_pages.specs.Refused as form;
 
-use crate::pieces::word;
+use crate::markup::refused::{CRUMB, NOTICE, TO_QUEUE, TO_REQUEST};
 use desk_model::Refusal;
-use itoa::Buffer;
-use page_core::{Part, put_parts};
+use page_core::{Value, fill};
 use std::alloc::AllocError;
 
 /// The heading of a refusal.
@@ -107,17 +106,7 @@ pub(crate) fn put_refusal(out: &mut Vec<u8>, refusal: &Refusal) -> Result<(), Al
     ensures { OnOk result (out.new.items
         ≡ out.old.items ++ page_bytes (form.notice_of refusal.now)) }
 {
-    let mut number = Buffer::new();
-    put_notice(
-        out,
-        heading_of(refusal),
-        front_of(refusal),
-        right_of(refusal),
-        back_of(refusal),
-        number.format(u32::from(refusal.number())),
-        refusal.name(),
-        is_denied(refusal),
-    )
+    put_notice(out, front_of(refusal), refusal)
 }
 
 /// Puts the same of the second of two commands, after the first was done.
@@ -125,17 +114,24 @@ pub(crate) fn put_refusal_after(out: &mut Vec<u8>, refusal: &Refusal) -> Result<
     ensures { OnOk result (out.new.items
         ≡ out.old.items ++ page_bytes (form.notice_after refusal.now)) }
 {
-    let mut number = Buffer::new();
-    put_notice(
-        out,
-        heading_of(refusal),
-        front_after(refusal),
-        right_of(refusal),
-        back_of(refusal),
-        number.format(u32::from(refusal.number())),
-        refusal.name(),
-        is_denied(refusal),
-    )
+    put_notice(out, front_after(refusal), refusal)
+}
+
+#[tactic(auto, unfolding(crate::specs::Refused::notice))]
+fn put_notice<'t>(out: &mut Vec<u8>, front: &'t str, refusal: &'t Refusal) -> Result<(), AllocError>
+    ensures { OnOk result (out.new.items
+        ≡ out.old.items ++ page_bytes (form.notice front.now refusal.now)) }
+{
+    let values = [
+        Value::Text(heading_of(refusal)),
+        Value::Text(front),
+        Value::Text(right_of(refusal)),
+        Value::Text(back_of(refusal)),
+        Value::Number(u32::from(refusal.number())),
+        Value::Text(refusal.name()),
+        Value::Text(right_of(refusal)),
+    ];
+    fill(out, NOTICE, &values, &[is_denied(refusal)])
 }
 
 fn is_denied(refusal: &Refusal) -> bool
@@ -144,109 +140,43 @@ fn is_denied(refusal: &Refusal) -> bool
     matches!(refusal, Refusal::Denied(_))
 }
 
-#[tactic(auto, unfolding(crate::specs::Refused::request_crumb))]
-pub(crate) fn put_request_crumb(out: &mut Vec<u8>, id: &str) -> Result<(), AllocError>
-    ensures { OnOk result (out.new.items
-        ≡ out.old.items ++ page_bytes (form.request_crumb id.now)) }
+/// Puts the way to the request, if that is there.
+#[tactic(auto, unfolding(crate::specs::Refused::crumb))]
+pub(crate) fn put_crumb(out: &mut Vec<u8>, found: bool, id: u32) -> Result<(), AllocError>
+    ensures { OnOk result (out.new.items ≡ out.old.items ++ page_bytes (form.crumb found id)) }
 {
-    put_parts(
+    fill(
         out,
-        &[
-            Part::Markup("<p class=\"crumb\"><a href=\"/desk/requests/"),
-            Part::Text(id),
-            Part::Markup("\">Request "),
-            Part::Text(id),
-            Part::Markup("</a></p>\n"),
-        ],
+        CRUMB,
+        &[Value::Number(id), Value::Number(id)],
+        &[found],
     )
 }
 
-#[tactic(auto, unfolding(crate::specs::Refused::notice))]
-fn put_notice<'t>(
-    out: &mut Vec<u8>,
-    heading: &'t str,
-    front: &'t str,
-    right: &'t str,
-    back: &'t str,
-    number: &'t str,
-    name: &'t str,
-    denied: bool,
-) -> Result<(), AllocError>
-    ensures { OnOk result (out.new.items
-        ≡ out.old.items ++ page_bytes (form.notice heading.now front.now right.now back.now number.now name.now denied)) }
-{
-    put_parts(
-        out,
-        &[
-            Part::Markup("<h1>"),
-            Part::Text(heading),
-            Part::Markup("</h1>\n<p class=\"alert\">"),
-            Part::Text(front),
-            Part::Text(right),
-            Part::Text(back),
-            Part::Markup(" <code>refused "),
-            Part::Text(number),
-            Part::Markup(" "),
-            Part::Text(name),
-            Part::Markup(word(denied, " ")),
-            Part::Text(right),
-            Part::Markup("</code></p>\n"),
-        ],
-    )
-}
-
-#[tactic(auto, unfolding(crate::specs::Refused::write_open))]
-pub(crate) fn put_write_open(out: &mut Vec<u8>) -> Result<(), AllocError>
-    ensures { OnOk result (out.new.items ≡ out.old.items ++ page_bytes form.write_open) }
-{
-    put_parts(out, &[Part::Markup("<div class=\"write\">\n")])
-}
-
-#[tactic(auto, unfolding(crate::specs::Refused::write_close))]
-pub(crate) fn put_write_close(out: &mut Vec<u8>) -> Result<(), AllocError>
-    ensures { OnOk result (out.new.items ≡ out.old.items ++ page_bytes form.write_close) }
-{
-    put_parts(out, &[Part::Markup("\n</div>\n")])
-}
-
+/// Puts the way back to the request, or to the queues if it isn't there.
 #[tactic(auto, unfolding(crate::specs::Refused::to_request))]
-pub(crate) fn put_to_request(out: &mut Vec<u8>, id: &str) -> Result<(), AllocError>
-    ensures { OnOk result (out.new.items ≡ out.old.items ++ page_bytes (form.to_request id.now)) }
+pub(crate) fn put_to_request(out: &mut Vec<u8>, found: bool, id: u32) -> Result<(), AllocError>
+    ensures { OnOk result (out.new.items
+        ≡ out.old.items ++ page_bytes (form.to_request found id)) }
 {
-    put_parts(
+    fill(
         out,
-        &[
-            Part::Markup("<p><a class=\"button\" href=\"/desk/requests/"),
-            Part::Text(id),
-            Part::Markup("\">Back to request "),
-            Part::Text(id),
-            Part::Markup("</a></p>\n"),
-        ],
+        TO_REQUEST,
+        &[Value::Number(id), Value::Number(id)],
+        &[found, !found],
     )
 }
 
+/// Puts the way back to the queue, or to the queues if it isn't there.
 #[tactic(auto, unfolding(crate::specs::Refused::to_queue))]
-pub(crate) fn put_to_queue(out: &mut Vec<u8>, queue: &str) -> Result<(), AllocError>
-    ensures { OnOk result (out.new.items ≡ out.old.items ++ page_bytes (form.to_queue queue.now)) }
+pub(crate) fn put_to_queue(out: &mut Vec<u8>, found: bool, queue: &str) -> Result<(), AllocError>
+    ensures { OnOk result (out.new.items
+        ≡ out.old.items ++ page_bytes (form.to_queue found queue.now)) }
 {
-    put_parts(
+    fill(
         out,
-        &[
-            Part::Markup("<p><a class=\"button\" href=\"/desk/queues/"),
-            Part::Text(queue),
-            Part::Markup("\">Back to "),
-            Part::Text(queue),
-            Part::Markup("</a></p>\n"),
-        ],
-    )
-}
-
-#[tactic(auto, unfolding(crate::specs::Refused::to_queues))]
-pub(crate) fn put_to_queues(out: &mut Vec<u8>) -> Result<(), AllocError>
-    ensures { OnOk result (out.new.items ≡ out.old.items ++ page_bytes form.to_queues) }
-{
-    put_parts(
-        out,
-        &[Part::Markup("<p><a class=\"button\" href=\"/\">To the queues</a></p>\n")],
+        TO_QUEUE,
+        &[Value::Text(queue), Value::Text(queue)],
+        &[found, !found],
     )
 }

@@ -8,12 +8,12 @@ use crate::change::{is_open, put_change};
 use crate::facts::put_facts;
 use crate::frame::{Place, put_bottom, put_top};
 use crate::history::put_history;
+use crate::markup::request::{COMMENT_TOP, REPLY_TOP, REQUEST_TOP, WRITING_END};
 use crate::moves::closing;
 use crate::write::{put_comment, put_reply};
 use desk_model::{Dossier, RequestRow};
 use hours_core::Minute;
-use itoa::Buffer;
-use page_core::{Part, put_parts};
+use page_core::{Value, fill};
 use settings_core::Settings;
 use std::alloc::{AllocError, Global};
 
@@ -61,8 +61,7 @@ fn put_content(
     ensures { OnOk result (out.new.items ≡ out.old.items ++ page_bytes
         (form.request_content caller.now moment settings.now dossier.now)) }
 {
-    let mut digits = Buffer::new();
-    let id = digits.format(dossier.shown.row.id);
+    let id = dossier.shown.row.id;
     put_told(out, id, caller, moment, settings, dossier)?;
     put_acts(alloc, out, id, caller, settings, dossier)
 }
@@ -70,18 +69,18 @@ fn put_content(
 /// Puts what is told of the request of this number.
 fn put_told(
     out: &mut Vec<u8>,
-    id: &str,
+    id: u32,
     caller: &str,
     moment: Minute,
     settings: &Settings,
     dossier: &Dossier,
 ) -> Result<(), AllocError>
     ensures { OnOk result (out.new.items ≡ out.old.items ++ page_bytes
-        (form.request_told id.now caller.now moment settings.now dossier.now)) }
+        (form.request_shown id caller.now moment settings.now dossier.now)) }
 {
     let shown = &dossier.shown;
     let buttons = is_open(caller, shown);
-    put_heading(out, id, &shown.row)?;
+    put_heading(out, &shown.row)?;
     put_facts(out, buttons, id, moment, settings, dossier)?;
     put_history(out, dossier.entries.as_slice())
 }
@@ -90,24 +89,30 @@ fn put_told(
 fn put_acts(
     alloc: Global,
     out: &mut Vec<u8>,
-    id: &str,
+    id: u32,
     caller: &str,
     settings: &Settings,
     dossier: &Dossier,
 ) -> Result<(), AllocError>
     ensures { OnOk result (out.new.items ≡ out.old.items ++ page_bytes
-        (form.request_acts id.now caller.now settings.now dossier.now)) }
+        (form.request_acts id caller.now settings.now dossier.now)) }
 {
     put_writing(out, id, closing_for(caller, settings, dossier))?;
-    put_change(alloc, out, caller, settings, dossier)?;
-    put_request_end(out)
+    put_change(alloc, out, caller, settings, dossier)
 }
 
-fn put_heading(out: &mut Vec<u8>, id: &str, row: &RequestRow) -> Result<(), AllocError>
-    ensures { OnOk result (out.new.items ≡ out.old.items
-        ++ page_bytes (form.request_head row.now.queue id.now row.now.subject)) }
+#[tactic(auto, unfolding(crate::specs::Request::request_top))]
+fn put_heading(out: &mut Vec<u8>, row: &RequestRow) -> Result<(), AllocError>
+    ensures { OnOk result (out.new.items
+        ≡ out.old.items ++ page_bytes (form.request_top row.now)) }
 {
-    put_request_head(out, row.queue.as_str(), id, row.subject.as_str())
+    let values = [
+        Value::Text(row.queue.as_str()),
+        Value::Text(row.queue.as_str()),
+        Value::Number(row.id),
+        Value::Text(row.subject.as_str()),
+    ];
+    fill(out, REQUEST_TOP, &values, &[])
 }
 
 /// The status to which the request can be moved with a reply: the first inactive one, but by no
@@ -124,71 +129,14 @@ fn closing_for<'s>(caller: &str, settings: &'s Settings, dossier: &Dossier) -> O
     }
 }
 
-fn put_writing(out: &mut Vec<u8>, id: &str, status: Option<&str>) -> Result<(), AllocError>
+#[tactic(auto, unfolding(crate::specs::Request::writing))]
+fn put_writing(out: &mut Vec<u8>, id: u32, status: Option<&str>) -> Result<(), AllocError>
     ensures { OnOk result (out.new.items ≡ out.old.items ++ page_bytes
-        (form.writing id.now (option_map (λ s. s.now) status.entry))) }
+        (form.writing id (option_map (λ s. s.now) status.entry))) }
 {
-    put_reply_open(out)?;
+    fill(out, REPLY_TOP, &[], &[])?;
     put_reply(out, id, "", status, false)?;
-    put_comment_open(out)?;
+    fill(out, COMMENT_TOP, &[], &[])?;
     put_comment(out, id, "")?;
-    put_comment_close(out)
-}
-
-#[tactic(auto, unfolding(crate::specs::Request::request_head))]
-fn put_request_head<'t>(
-    out: &mut Vec<u8>,
-    queue: &'t str,
-    id: &'t str,
-    subject: &'t str,
-) -> Result<(), AllocError>
-    ensures { OnOk result (out.new.items
-        ≡ out.old.items ++ page_bytes (form.request_head queue.now id.now subject.now)) }
-{
-    put_parts(
-        out,
-        &[
-            Part::Markup("<p class=\"crumb\"><a href=\"/\">Queues</a> / "),
-            Part::Markup("<a href=\"/desk/queues/"),
-            Part::Text(queue),
-            Part::Markup("\">"),
-            Part::Text(queue),
-            Part::Markup("</a></p>\n<h1 dir=\"auto\"><span>#"),
-            Part::Text(id),
-            Part::Markup("</span> "),
-            Part::Text(subject),
-            Part::Markup("</h1>\n"),
-        ],
-    )
-}
-
-#[tactic(auto, unfolding(crate::specs::Request::reply_open))]
-fn put_reply_open(out: &mut Vec<u8>) -> Result<(), AllocError>
-    ensures { OnOk result (out.new.items ≡ out.old.items ++ page_bytes form.reply_open) }
-{
-    put_parts(out, &[Part::Markup("<div class=\"write\" id=\"reply\">\n")])
-}
-
-#[tactic(auto, unfolding(crate::specs::Request::comment_open))]
-fn put_comment_open(out: &mut Vec<u8>) -> Result<(), AllocError>
-    ensures { OnOk result (out.new.items ≡ out.old.items ++ page_bytes form.comment_open) }
-{
-    put_parts(
-        out,
-        &[Part::Markup("\n<details>\n<summary>Comment instead</summary>\n")],
-    )
-}
-
-#[tactic(auto, unfolding(crate::specs::Request::comment_close))]
-fn put_comment_close(out: &mut Vec<u8>) -> Result<(), AllocError>
-    ensures { OnOk result (out.new.items ≡ out.old.items ++ page_bytes form.comment_close) }
-{
-    put_parts(out, &[Part::Markup("\n</details>\n</div>\n</section>\n")])
-}
-
-#[tactic(auto, unfolding(crate::specs::Request::request_end))]
-fn put_request_end(out: &mut Vec<u8>) -> Result<(), AllocError>
-    ensures { OnOk result (out.new.items ≡ out.old.items ++ page_bytes form.request_end) }
-{
-    put_parts(out, &[Part::Markup("</div>\n")])
+    fill(out, WRITING_END, &[], &[])
 }

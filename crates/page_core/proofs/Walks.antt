@@ -1,8 +1,7 @@
--- Parts after parts, and a row of parts for each item.
+-- Parts after parts.
 use Rattle.std.proofs.Common.{◌≡◌, ◌∙◌, ℕ, Bool, true, false, if◌then◌else◌, List, [], ◌∷◌, ◌++◌}
 use Rattle.std.proofs.Common.{refl, ap}
 use Rattle.std.proofs.lemmas.Grind.{flat_map-append}
-use Rattle.std.specs.List.{flat_map}
 use Rattle.page_core.specs.Page.{Part, Markup, Text, page_bytes, part_bytes}
 use Rattle.page_core.specs.Reading.{State, InText, IsPage, after, at_text, is_content, outline}
 use Rattle.page_core.specs.Reading.{step, walk}
@@ -19,12 +18,6 @@ pub page_append : (parts others : List Part) → IsPage parts → IsPage others
     → IsPage (parts ++ others)
 page_append parts others first second =
     walk_append InText parts others ∙ ap (λ state. walk state others) first ∙ second
-
-pub page_rows : {X : Type 0} (row : X → List Part) → ((x : X) → IsPage (row x))
-    → (xs : List X) → IsPage (flat_map row xs)
-page_rows row each [] = refl
-page_rows row each (x ∷ xs) =
-    page_append (row x) (flat_map row xs) (each x) (page_rows row each xs)
 
 -- ---- outlines
 
@@ -49,13 +42,3 @@ outline_of_two parts others page =
     ∙ outline_append InText (page_bytes parts) (page_bytes others)
     ∙ ap (λ state. outline InText (page_bytes parts) ++ outline state (page_bytes others))
     (ends_in_text parts page)
-
--- rows of which each has its outline
-pub outline_of_rows : {X : Type 0} (row : X → List Part) (each : X → List ℕ)
-    → ((x : X) → IsPage (row x)) → ((x : X) → outline InText (page_bytes (row x)) ≡ each x)
-    → (xs : List X) → outline InText (page_bytes (flat_map row xs)) ≡ flat_map each xs
-outline_of_rows row each pages same [] = refl
-outline_of_rows row each pages same (x ∷ xs) =
-    outline_of_two (row x) (flat_map row xs) (pages x)
-    ∙ ap (λ l. l ++ outline InText (page_bytes (flat_map row xs))) (same x)
-    ∙ ap (λ l. each x ++ l) (outline_of_rows row each pages same xs)

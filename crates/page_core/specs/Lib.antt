@@ -1,5 +1,7 @@
 pub mod Escape
+pub mod Extends
 pub mod Markup
 pub mod Page
-pub mod Parts
 pub mod Reading
+pub mod Template
+pub mod Values

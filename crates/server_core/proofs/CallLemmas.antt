@@ -1,6 +1,6 @@
 -- What the host tells of calls, one after the other.
-use Rattle.std.proofs.Common.{◌≡◌, ◌∙◌, ◌+◌, ℕ, zero, suc, Bool, List, [], ◌∷◌, ◌++◌, Option, Some, None, refl}
-use Rattle.std.proofs.Common.{ap, sym, subst, map, length, arith, append-nil, append_assoc, zero-add}
+use Rattle.std.proofs.Common.{◌≡◌, ◌∙◌, ◌+◌, ℕ, suc, Bool, List, [], ◌∷◌, ◌++◌, Option, Some, None, refl}
+use Rattle.std.proofs.Common.{ap, sym, subst, length, arith, append-nil, append_assoc, zero-add}
 use Rattle.server_core.specs.Calls.{Adds, At, Call, Io, at_place, from_place, how_many}
 
 pub adds_nil : (a : Option (List Call)) → Adds a a []

@@ -1,6 +1,6 @@
 -- Examples of the definitions: which connection gives way to a new one, for how long a server waits,
 -- by what each of its connections is at, and what its host tells of its calls.
-use Rattle.std.specs.Prelude.{◌≡◌, refl, List, Option, ℕ, true, false, [], ◌∷◌, codes, Some, None}
+use Rattle.std.specs.Prelude.{◌≡◌, refl, List, ℕ, true, false, [], ◌∷◌, codes, Some, None}
 use Rattle.std.specs.Prelude.{length}
 use Rattle.std.proofs.Common.{arith, inl, inr}
 use Rattle.connection_core.specs.Machine.{answered, closed, lingering, opened}

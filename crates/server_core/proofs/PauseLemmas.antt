@@ -92,9 +92,9 @@ RestSo queue marks left after cs calls called =
 rests_by : (queue : Queue) (marks left : List Mark) (began pause : ℕ) (comes : Bool) (cs : List Conn)
     (calls mid called : Option (List Call)) → Adds calls mid (Begins began ∷ [])
     → Adds mid called (Waits pause marks left comes ∷ [])
-    → pause ≡ pauses (is_full queue) began (begins queue) cs marks
+    → pause ≡ pauses (is_full queue) began (begins queue) cs marks → length cs ≤ length marks
     → RestSo queue marks left (cond comes More queue) cs calls called
-rests_by queue marks left began pause comes cs calls mid called first last is = (
+rests_by queue marks left began pause comes cs calls mid called first last is many = (
   record {
     known = record { queue = queue; marks = marks };
     began = began;
@@ -105,28 +105,32 @@ rests_by queue marks left began pause comes cs calls mid called first last is = 
   refl,
   refl,
   refl,
-  is,
+  (many, is),
   adds_both calls mid called (Begins began ∷ []) (Waits pause marks left comes ∷ []) first last,
 )
 
 -- it told that a connection may wait
-pub rests_on : (queue : Queue) (marks left : List Mark) (began pause : ℕ) (comes : Bool) (cs : List Conn)
-    (calls mid called : Option (List Call)) → Adds calls mid (Begins began ∷ [])
+pub rests_on : {S : Type 0} (queue : Queue) (marks left : List Mark) (began pause : ℕ) (comes : Bool)
+    (slots : List (Slot S)) (calls mid called : Option (List Call)) → Adds calls mid (Begins began ∷ [])
     → Adds mid called (Waits pause marks left comes ∷ [])
-    → pause ≡ pauses (is_full queue) began (begins queue) cs marks → comes ≡ true
-    → RestSo queue marks left More cs calls called
-rests_on queue marks left began pause comes cs calls mid called first last is tells =
-    subst (λ (b : Bool). RestSo queue marks left (cond b More queue) cs calls called) tells
-    (rests_by queue marks left began pause comes cs calls mid called first last is)
+    → pause ≡ pauses (is_full queue) began (begins queue) (conns slots) marks
+    → length slots ≤ length marks → comes ≡ true
+    → RestSo queue marks left More (conns slots) calls called
+rests_on queue marks left began pause comes slots calls mid called first last is many tells =
+    subst (λ (b : Bool). RestSo queue marks left (cond b More queue) (conns slots) calls called) tells
+    (rests_by queue marks left began pause comes (conns slots) calls mid called first last is
+    (simp length-map many))
 
-pub rests_still : (queue : Queue) (marks left : List Mark) (began pause : ℕ) (comes : Bool)
-    (cs : List Conn) (calls mid called : Option (List Call)) → Adds calls mid (Begins began ∷ [])
+pub rests_still : {S : Type 0} (queue : Queue) (marks left : List Mark) (began pause : ℕ) (comes : Bool)
+    (slots : List (Slot S)) (calls mid called : Option (List Call)) → Adds calls mid (Begins began ∷ [])
     → Adds mid called (Waits pause marks left comes ∷ [])
-    → pause ≡ pauses (is_full queue) began (begins queue) cs marks → comes ≡ false
-    → RestSo queue marks left queue cs calls called
-rests_still queue marks left began pause comes cs calls mid called first last is tells =
-    subst (λ (b : Bool). RestSo queue marks left (cond b More queue) cs calls called) tells
-    (rests_by queue marks left began pause comes cs calls mid called first last is)
+    → pause ≡ pauses (is_full queue) began (begins queue) (conns slots) marks
+    → length slots ≤ length marks → comes ≡ false
+    → RestSo queue marks left queue (conns slots) calls called
+rests_still queue marks left began pause comes slots calls mid called first last is many tells =
+    subst (λ (b : Bool). RestSo queue marks left (cond b More queue) (conns slots) calls called) tells
+    (rests_by queue marks left began pause comes (conns slots) calls mid called first last is
+    (simp length-map many))
 
 free_queue : (queue : Queue) (now : ℕ) (cs : List Conn) (ms : List Mark)
     → (queue ≡ More) ⊎ (queue ≡ Full) → HasFree cs → length cs ≤ length ms
@@ -138,7 +142,6 @@ free_queue queue now cs ms (inr full) (place, low, free) many =
     ∙ free_by now 60000 place cs ms many low free
 
 pub free_rest : (rest : Rest) (cs : List Conn) → IsPause rest cs
-    → (rest.known.queue ≡ More) ⊎ (rest.known.queue ≡ Full) → HasFree cs
-    → length cs ≤ length rest.known.marks → rest.pause ≡ 0
-free_rest rest cs is waits free many =
+    → (rest.known.queue ≡ More) ⊎ (rest.known.queue ≡ Full) → HasFree cs → rest.pause ≡ 0
+free_rest rest cs (many, is) waits free =
     is ∙ free_queue rest.known.queue rest.began cs rest.known.marks waits free many

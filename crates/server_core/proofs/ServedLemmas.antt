@@ -42,6 +42,11 @@ pub places_free : {S : Type 0} (slots : List (Slot S)) (places : ℕ)
 places_free slots places is =
     is ∙ ap (λ (n : ℕ). replicate n closed) (sym (places_count slots places is))
 
+pub marks_unset : (marks items : List Mark) (places count : ℕ) → marks ≡ items
+    → items ≡ replicate places unmarked → count ≡ places → marks ≡ replicate count unmarked
+marks_unset marks items places count is unset same =
+    is ∙ unset ∙ ap (λ (n : ℕ). replicate n unmarked) (sym same)
+
 -- ---- accepting
 
 pub clock_both : (t u v : Told) → KeepsClock t u → KeepsClock u v → KeepsClock t v

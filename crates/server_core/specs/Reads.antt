@@ -1,6 +1,6 @@
 -- What one read and one write do.
 use Rattle.std.specs.Prelude.{◌≡◌, ◌≢◌, ◌≤◌, ◌⊎◌, ℕ, Bool, true, false, List, [], ◌∷◌, Option}
-use Rattle.std.specs.Prelude.{Some, None, length, take}
+use Rattle.std.specs.Prelude.{None, length, take}
 use Rattle.std.specs.Io.KnownBytes.{Appends, Consumes, IsAtEnd, Keeps}
 use Rattle.connection_core.specs.Machine.{Conn, Hears, closed, ended, wrote}
 use Rattle.connection_core.specs.declared.phase.Phase.{Phase}

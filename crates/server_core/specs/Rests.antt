@@ -1,6 +1,6 @@
 -- How a server waits between two turns, and what it knows then of the clients that wait.
-use Rattle.std.specs.Prelude.{◌≡◌, ℕ, zero, suc, Bool, true, false, List, [], ◌∷◌, replicate, nat_lt}
-use Rattle.std.specs.Prelude.{if◌then◌else◌}
+use Rattle.std.specs.Prelude.{◌≡◌, ◌≤◌, ℕ, zero, suc, Bool, true, false, List, [], ◌∷◌, length}
+use Rattle.std.specs.Prelude.{replicate, nat_lt, if◌then◌else◌}
 use Rattle.connection_core.specs.Machine.{Conn}
 use Rattle.server_core.specs.Calls.{Accepted, Accepts, Begins, Call, Comes, Fails, Nobody, Waits}
 use Rattle.server_core.specs.Wait.{begins, is_full, pauses}
@@ -32,11 +32,12 @@ abbrev pub rest_calls : Rest → List Call
 rest_calls rest =
     Begins rest.began ∷ Waits rest.pause rest.known.marks rest.marks rest.comes ∷ []
 
--- it waits just for as long as there is nothing to do with these connections
+-- it waits just for as long as there is nothing to do with these connections, each of which has a mark
 abbrev pub IsPause : Rest → List Conn → Type 0
 IsPause rest cs =
-    rest.pause
-    ≡ pauses (is_full rest.known.queue) rest.began (begins rest.known.queue) cs rest.known.marks
+    (length cs ≤ length rest.known.marks)
+    × (rest.pause
+    ≡ pauses (is_full rest.known.queue) rest.began (begins rest.known.queue) cs rest.known.marks)
 
 -- whether clients wait, after it
 abbrev pub queue_then : Rest → Queue

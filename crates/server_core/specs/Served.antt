@@ -53,7 +53,8 @@ turn_calls t = rest_calls t.rest ++ (map accept_call t.accepts ++ from_place 0 t
 -- is left whose deadline has come, and none that is to be settled. A desk that was shut answers no
 -- message; else each message that is whole is answered, unless as many were as were to be. The wait
 -- before was just as long as there was nothing to do. The places are those at which the network gave a
--- connection; where a client is known to be left, none could be given to it. Each stream is read and written where it is marked, by the wait or as a new one.
+-- connection; where a client is known to be left, none could be given to it. Each stream is read and
+-- written where it is marked, by the wait or as a new one.
 abbrev pub DoesTurn : {D : Type 0} → (List ℕ → Option ℕ → Type 0) → (D → Answered → D → Type 0)
     → (D → Bool) → ℕ → Turn → List Conn → D → List Conn → D → Type 0
 DoesTurn States Steps shuts most t olds desk news next =

@@ -1,5 +1,5 @@
 //! What holds of every server.
-ghost use Rattle.std.specs.Prelude.{◌≡◌, ◌≤◌, ◌+◌, ◌*◌, ◌⊎◌, ℕ, List, length, replicate};
+ghost use Rattle.std.specs.Prelude.{◌≡◌, ◌≤◌, ◌+◌, ◌*◌, ◌⊎◌, ℕ, List, replicate};
 ghost use Rattle.server_core.specs.AtPlace.{KeepsPlace, answers_at};
 ghost use Rattle.connection_core.specs.Laws.{StatesAtMost};
 ghost use Rattle.connection_core.specs.Machine.{Conn, closed};
@@ -31,7 +31,7 @@ pub fn once_law<D: Desk>()
 pub fn pause_law()
     ensures { (rest : Rest) (cs : List Conn) → IsPause rest cs
         → (rest.known.queue ≡ Queue.More) ⊎ (rest.known.queue ≡ Queue.Full) → HasFree cs
-        → length cs ≤ length rest.known.marks → rest.pause ≡ 0 }
+        → rest.pause ≡ 0 }
 {}
 
 /// Each message that was answered is a front of the bytes that came from its connection.

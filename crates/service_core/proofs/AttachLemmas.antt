@@ -1,11 +1,13 @@
 -- What is left of a store whose rows are read, and whose due moments are then renewed.
 use Rattle.std.proofs.Common.{◌≡◌, Err, Result}
+use Rattle.sqlite.specs.Effect.{Database}
 use Rattle.sqlite.specs.State.{State}
 use Rattle.store_tables.proofs.ReadOn.{blames_failed}
 use Rattle.store_tables.proofs.Spared.{joined}
 use Rattle.store_tables.specs.Calls.{Spares}
 use Rattle.store_tables.specs.Readings.{Blames}
 use Rattle.store_tables.specs.declared.fault.StoreFault.{StoreFault}
+use Rattle.service_core.specs.Attaching.{AreGood, GoodPersons, GoodQueues, GoodRequests, GoodStays}
 use Rattle.service_core.specs.Attaching.{StaysUnlessDone, TestsOrBlames}
 use Rattle.service_core.specs.declared.renewal.Renewal.{Renewal}
 use Rattle.service_core.proofs.LeftLemmas.{keeps_after, spared_keeps}
@@ -26,4 +28,16 @@ pub unless_done_after : {r : Result Renewal StoreFault} {a b c : State} → Spar
 unless_done_after first second = record {
   left = λ other. joined first (second.left other);
   keeps = keeps_after first second.keeps;
+}
+
+-- where each table is good, all are
+pub all_good : {db : Database} → ((GoodRequests db × GoodQueues db) × GoodStays db) × GoodPersons db
+    → AreGood db
+all_good it = record {
+  queues = it.0.0.1;
+  requests = it.0.0.0;
+  watchers = it.1.watchers;
+  links = it.1.links;
+  entries = it.1.entries;
+  stays = it.0.1;
 }

@@ -1,9 +1,7 @@
 -- Two desks that a caller sees alike answer a search of the caller alike.
-use Rattle.std.proofs.Common.{◌≡◌, ◌∙◌, ℕ, List, Option, Some, None, Ok, Err, Result, refl, ap, sym}
-use Rattle.sqlite.specs.State.{State}
+use Rattle.std.proofs.Common.{◌∙◌, ℕ, List, Option, ap, sym}
 use Rattle.sqlite.specs.Store.{Ghosts}
 use Rattle.settings_core.specs.declared.settings.Settings.{Settings}
-use Rattle.desk_model.specs.Desk.{Desk}
 use Rattle.find_core.specs.Find.{outcome_of}
 use Rattle.find_core.specs.declared.search.Place.{Place}
 use Rattle.find_core.specs.declared.search.Search.{Search}

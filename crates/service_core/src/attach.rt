@@ -13,7 +13,8 @@ ghost use Rattle.report_core.specs.Rows.{QueuesRise};
 ghost use Rattle.service_core.specs.Attaching as attaching;
 ghost use Rattle.service_core.specs.Attaching.{GoodEntries, GoodLinks, GoodPersons, IsAttached};
 ghost use Rattle.service_core.specs.Attaching.{IsFaultOver, IsGivenBack, LacksName};
-ghost use Rattle.service_core.specs.Attaching.{StaysUnlessDone, Tests, TestsOrBlames, knows_names};
+ghost use Rattle.service_core.specs.Attaching.{StaysUnlessDone, Tests, TestsOrBlames, TestsRows};
+ghost use Rattle.service_core.specs.Attaching.{knows_names};
 ghost use Rattle.service_core.specs.Renewing.{AreRenewed};
 
 use crate::desk::Desk;
@@ -65,6 +66,29 @@ impl<S: Backend> Desk<S> {
             }
         }
     }
+}
+
+/// What is asked of tables before they are attached: whether the settings know each name of them,
+/// each row of which is tested first, as `Desk::attach` tests it. `Mismatch` where a row is no value
+/// of its type, `Refused` where the store or memory refuses it. The tables stay as they are.
+#[tactic(auto, using(store_tables::proofs::Spared::joined))]
+pub fn knows_tables<S: Backend>(
+    alloc: Global,
+    store: &mut Store<S>,
+    settings: &Settings,
+) -> Result<bool, StoreFault>
+    ensures told { Tells (λ desk knows. known.is_known settings.now desk ≡ knows)
+        (state_of S.Store store.old) (state_of S.Store store.new) result }
+    ensures tested { OnOk result
+        (TestsRows (state_of S.Store store.old) (state_of S.Store store.new)) }
+    ensures kept { Spares (state_of S.Store store.old) (state_of S.Store store.new) }
+    ensures fault { Blames
+        (state_of S.Store store.old) (state_of S.Store store.new) result }
+{
+    let dated = store.dated_requests(alloc)?;
+    let queues = store.queues(alloc)?;
+    drop(store.stays(alloc)?);
+    is_known(alloc, store, settings, queues.as_slice(), dated.as_slice())
 }
 
 /// Renews the due moments of the tables where the settings know each name of them. Unless that is

@@ -4,7 +4,8 @@
 //! - `Desk::attach` gives a desk over tables where the settings know each name in them, and
 //!   `UnknownName` only where they don't; the store is given back. Each row is a value of its type
 //!   then (`TestsRows`). The tables of a desk keep the due moments that the settings give
-//!   (`AreRenewed`). Those that differ are written, all or none.
+//!   (`AreRenewed`). Those that differ are written, all or none. `knows_tables` asks the same of
+//!   tables, and writes nothing.
 //! - `Desk::execute` is one step (`StepsOn`), to a well-formed desk, with the laws beside it
 //!   (`IsStep`); or `Unavailable`. A refusal changes no table, whatever rows there are.
 //! - `Desk::execute_all` is a run of such steps, to a well-formed desk (`RunsOn`). Where there is no
@@ -42,6 +43,7 @@ mod stays;
 mod stream;
 mod told;
 
+pub use attach::knows_tables;
 pub use desk::Desk;
 pub use desk_reports::StreamFault;
 pub use desk_texts::{

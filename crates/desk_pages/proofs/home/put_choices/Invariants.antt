@@ -1,12 +1,11 @@
 -- what was put so far
 use Rattle.std.proofs.Common.{◌≡◌, ◌++◌, take}
-use Rattle.std.specs.List.{flat_map}
 use Rattle.page_core.specs.Page.{page_bytes}
-use Rattle.desk_pages.specs.Pieces.{choice}
+use Rattle.desk_pages.specs.Home.{choices}
 use Rattle.desk_pages.proofs.home.put_choices.Given as goal
 
 abbrev pub invariant-loop-name : goal.invariant-loop-name
 invariant-loop-name l =
     l.out.items
     ≡ l.initial.out.items
-    ++ page_bytes (flat_map choice (take l.name-index l.names))
+    ++ page_bytes (choices (take l.name-index l.names))

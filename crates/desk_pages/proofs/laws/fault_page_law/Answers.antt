@@ -1,5 +1,5 @@
-use Rattle.desk_pages.proofs.Notices.{fault_has}
+use Rattle.desk_pages.proofs.Notices.{fault_same}
 use Rattle.desk_pages.proofs.laws.fault_page_law.Goals as goal
 
 pub returns : goal.returns
-returns c = fault_has
+returns c = fault_same

@@ -1,5 +1,5 @@
-use Rattle.desk_pages.proofs.Homes.{home_has}
+use Rattle.desk_pages.proofs.Homes.{home_same}
 use Rattle.desk_pages.proofs.laws.home_page_law.Goals as goal
 
 pub returns : goal.returns
-returns c = home_has
+returns c = home_same

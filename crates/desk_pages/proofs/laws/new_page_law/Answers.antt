@@ -1,5 +1,5 @@
-use Rattle.desk_pages.proofs.Asks.{new_has}
+use Rattle.desk_pages.proofs.Asks.{new_same}
 use Rattle.desk_pages.proofs.laws.new_page_law.Goals as goal
 
 pub returns : goal.returns
-returns c = new_has
+returns c = new_same

@@ -1,5 +1,5 @@
-use Rattle.desk_pages.proofs.Lates.{overdue_has}
+use Rattle.desk_pages.proofs.Lates.{overdue_same}
 use Rattle.desk_pages.proofs.laws.overdue_page_law.Goals as goal
 
 pub returns : goal.returns
-returns c = overdue_has
+returns c = overdue_same

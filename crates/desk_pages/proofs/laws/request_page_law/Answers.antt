@@ -1,5 +1,5 @@
-use Rattle.desk_pages.proofs.Requests.{request_has}
+use Rattle.desk_pages.proofs.Requests.{request_same}
 use Rattle.desk_pages.proofs.laws.request_page_law.Goals as goal
 
 pub returns : goal.returns
-returns c = request_has
+returns c = request_same

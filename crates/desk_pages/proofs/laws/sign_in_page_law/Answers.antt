@@ -1,5 +1,5 @@
-use Rattle.desk_pages.proofs.SignIns.{sign_in_has}
+use Rattle.desk_pages.proofs.Notices.{sign_in_same}
 use Rattle.desk_pages.proofs.laws.sign_in_page_law.Goals as goal
 
 pub returns : goal.returns
-returns c = sign_in_has
+returns c = sign_in_same

@@ -1,5 +1,5 @@
-use Rattle.desk_pages.proofs.Loads.{workload_has}
+use Rattle.desk_pages.proofs.Loads.{workload_same}
 use Rattle.desk_pages.proofs.laws.workload_page_law.Goals as goal
 
 pub returns : goal.returns
-returns c = workload_has
+returns c = workload_same

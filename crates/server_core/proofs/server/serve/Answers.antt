@@ -1,10 +1,9 @@
 -- the places are as many as were asked for, and have a mark each
-use Rattle.std.proofs.Common.{◌≡◌, ◌∙◌, ℕ, ap, subst, sym, replicate, arith}
+use Rattle.std.proofs.Common.{◌≡◌, ◌∙◌, ℕ, ap, subst, replicate, arith}
 use Rattle.connection_core.specs.Machine.{closed}
 use Rattle.server_core.specs.Places.{conns}
 use Rattle.server_core.specs.Served.{IsServed}
-use Rattle.server_core.specs.Works.{unmarked}
-use Rattle.server_core.proofs.ServedLemmas.{places_count, places_free}
+use Rattle.server_core.proofs.ServedLemmas.{marks_unset, places_count, places_free}
 use Rattle.server_core.proofs.server.serve.Goals as goal
 
 pub serve_at-requires-clause-free : goal.serve_at-requires-clause-free
@@ -25,8 +24,8 @@ serve_at-requires-clause-unmarked g c =
     let free : conns c.deref_mut.result.now ≡ replicate c.args.places closed =
     ap (λ l. conns l) c.deref_mut.ensures.value ∙ c.in_ok-slots.ensures in
     let count = places_count c.deref_mut.result.now c.args.places free in
-    c.deref_mut-2.ensures.value ∙ c.in_ok-marks.ensures.items_if_clones_equal (λ y is. is)
-    ∙ ap (λ n. replicate n unmarked) (sym count)
+    marks_unset c.deref_mut-2.result.now c.in_ok-marks.marks.items c.args.places _
+    c.deref_mut-2.ensures.value (c.in_ok-marks.ensures.items_if_clones_equal (λ y is. is)) count
 
 pub returns-clause-ok : goal.returns-clause-ok
 returns-clause-ok g c =

@@ -4,7 +4,6 @@ use Rattle.std.specs.Prelude.{true, ⊤}
 use Rattle.std.proofs.lemmas.Result.{IfOk-weaker}
 use Rattle.desk_model.specs.Known.{is_known}
 use Rattle.report_core.specs.Rows.{QueuesRise}
-use Rattle.sqlite.specs.Effect.{Database}
 use Rattle.store_core.specs.Seen.{state_of}
 use Rattle.store_tables.specs.Contents.{contents_of}
 use Rattle.store_tables.proofs.Spared.{joined, stands, stands_for}
@@ -14,25 +13,14 @@ use Rattle.store_tables.proofs.RowLemmas.{blames_of}
 use Rattle.store_tables.proofs.Contents.Queue.{queue_table}
 use Rattle.store_tables.proofs.Contents.Stay.{stay_table}
 use Rattle.store_tables.proofs.ReadOn.{blames_after, blames_refused}
-use Rattle.service_core.specs.Attaching.{AreGood, GoodPersons, GoodQueues, GoodRequests, GoodStays}
 use Rattle.service_core.specs.Attaching.{knows_names}
 use Rattle.service_core.specs.declared.renewal.Renewal.{Renewal}
 use Rattle.service_core.specs.declared.renewal.Renewal.TheVariants.{UnknownName}
-use Rattle.service_core.proofs.AttachLemmas.{spared_unless_done, tests_failed, unless_done_after}
+use Rattle.service_core.proofs.AttachLemmas.{all_good, spared_unless_done, tests_failed}
+use Rattle.service_core.proofs.AttachLemmas.{unless_done_after}
 use Rattle.service_core.proofs.KnownLemmas.{known_of_dated}
 use Rattle.service_core.proofs.TestLemmas.{anyway, tests_of, tests_then}
 use Rattle.service_core.proofs.attach.renew_known.Goals as goal
-
-are_good : {db : Database} → ((GoodRequests db × GoodQueues db) × GoodStays db) × GoodPersons db
-    → AreGood db
-are_good it = record {
-  queues = it.0.0.1;
-  requests = it.0.0.0;
-  watchers = it.1.watchers;
-  links = it.1.links;
-  entries = it.1.entries;
-  stays = it.0.1;
-}
 
 pub returns-in_err-dated-clause-tested : goal.returns-in_err-dated-clause-tested
 returns-in_err-dated-clause-tested g c =
@@ -136,7 +124,7 @@ returns-then-not-branch-clause-tested g c =
     c.stays.ensures.kept) c.is_known.ensures.kept durations c.in_ok-is_known.ensures.tested in
     let answered : Result Renewal StoreFault = Ok UnknownName in
     record {
-      tested = λ there clean. are_good (all.good there clean);
+      tested = λ there clean. all_good (all.good there clean);
       blames = blames_refused answered tt;
     }
 
@@ -151,7 +139,7 @@ returns-clause-tested g c =
     record {
       tested =
           anyway c.renew.result
-          (λ there clean. are_good (all.good there (c.renew.ensures.left.keeps.clean clean)));
+          (λ there clean. all_good (all.good there (c.renew.ensures.left.keeps.clean clean)));
       blames = blames_refused c.renew.result c.renew.ensures.fault;
     }
 

@@ -1,7 +1,6 @@
 -- what every desk refuses leaves the tables
 use Rattle.std.proofs.Common.{refl}
 use Rattle.store_tables.proofs.Spared.{unread}
-use Rattle.store_core.specs.Seen.{state_of}
 use Rattle.service_core.specs.Seen.{settings_of, tables_of}
 use Rattle.service_core.specs.TableSteps.{ask_by}
 use Rattle.service_core.proofs.LeftLemmas.{left_same}

@@ -1,7 +1,0 @@
--- ASCII is text
-use Rattle.std.proofs.lemmas.Str.{IsUtf8-from_ascii}
-use Rattle.desk_pages.proofs.pieces.as_text.Goals as goal
-
-pub unreachable-requires : goal.unreachable-requires
-unreachable-requires c =
-    c.in-Err.ensures.cases.0 (IsUtf8-from_ascii _ c.requires)

@@ -1,0 +1,11 @@
+//! The part of a request's page by which it is changed.
+
+/// Whether it is unfolded.
+pub(crate) const CHANGE_TOP: &str = r#"<details class="change"[ open]>
+<summary>Change it</summary>
+"#;
+
+/// And the end of the page's content.
+pub(crate) const CHANGE_END: &str = r#"</details>
+</div>
+"#;

@@ -1,0 +1,30 @@
+//! The forms by which a request gets another level, other watchers and other links.
+
+/// The number of the request.
+pub(crate) const LEVEL_TOP: &str = r#"<form method="post" action="/desk/requests/{}/level">
+<label for="level">Level</label>
+<select id="level" name="level">
+<option value="">none</option>
+"#;
+
+/// The number of the request four times, and before its last time what a number is.
+pub(crate) const FIELDS_END: &str = r#"</select>
+<button>Set</button>
+</form>
+<form method="post" action="/desk/requests/{}/watch">
+<label for="role">Role</label>
+<select id="role" name="role"><option>requestor</option><option>cc</option><option>admincc</option></select>
+<label for="who">Person</label>
+<input id="who" name="person" list="people" autocapitalize="none" spellcheck="false" autocomplete="off" required>
+<button>Put in</button>
+<button formaction="/desk/requests/{}/unwatch">Take out</button>
+</form>
+<form method="post" action="/desk/requests/{}/link">
+<label for="kind">Link</label>
+<select id="kind" name="kind"><option>DependsOn</option><option>DependedOnBy</option><option>MemberOf</option><option>HasMember</option><option>RefersTo</option><option>ReferredToBy</option></select>
+<label for="other">Request</label>
+<input id="other" name="other" inputmode="numeric" pattern="{}" title="The number of a request" autocomplete="off" required>
+<button>Link</button>
+<button formaction="/desk/requests/{}/unlink">Unlink</button>
+</form>
+"#;

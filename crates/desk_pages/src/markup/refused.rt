@@ -1,0 +1,42 @@
+//! What is said of a refusal.
+
+/// Whether the request is there; its number, twice.
+pub(crate) const CRUMB: &str = r#"[<p class="crumb"><a href="/desk/requests/{}">Request {}</a></p>
+]"#;
+
+/// The heading; what is said before the right, the right, and what is said after it; the number
+/// and the name of the refusal, whether a right is lacking, and the right.
+pub(crate) const NOTICE: &str = r#"<h1>{}</h1>
+<p class="alert">{}{}{} <code>refused {} {}[ ]{}</code></p>
+"#;
+
+pub(crate) const TYPED_TOP: &str = r#"<div class="write">
+"#;
+
+pub(crate) const TYPED_END: &str = r#"
+</div>
+"#;
+
+/// Whether the request is there, or is not; its number, twice.
+pub(crate) const TO_REQUEST: &str =
+    r#"[<p><a class="button" href="/desk/requests/{}">Back to request {}</a></p>
+][<p><a class="button" href="/">To the queues</a></p>
+]"#;
+
+/// Whether the queue is there, or is not; its name, twice.
+pub(crate) const TO_QUEUE: &str = r#"[<p><a class="button" href="/desk/queues/{}">Back to {}</a></p>
+][<p><a class="button" href="/">To the queues</a></p>
+]"#;
+
+pub(crate) const TO_QUEUES: &str = r#"<p><a class="button" href="/">To the queues</a></p>
+"#;
+
+/// The number of the request.
+pub(crate) const FILED_NOTE: &str =
+    r#"<p>Request {} is filed, but its text was not sent. Here it is still.</p>
+"#;
+
+/// The status.
+pub(crate) const REPLIED_NOTE: &str =
+    r#"<p>Your reply was sent, but the request was not made {}.</p>
+"#;

@@ -1,0 +1,25 @@
+//! The forms for a reply and for a comment. A browser drops the line feed after `<textarea ..>`, so
+//! one always stands there, and a text that begins with one keeps it.
+
+/// The number of the request, and the text.
+pub(crate) const REPLY: &str = r#"<form method="post" action="/desk/requests/{}/reply">
+<label for="text">Reply, to all who may see the request</label>
+<textarea id="text" name="text" rows="5" dir="auto" required>
+{}</textarea>
+"#;
+
+/// Whether it is ticked, and the status, twice.
+pub(crate) const MOVE_TOO: &str =
+    r#"<label class="line"><input type="checkbox" name="status"[ checked] value="{}"> and make it {}</label>
+"#;
+
+pub(crate) const REPLY_END: &str = r#"<button>Reply</button>
+</form>"#;
+
+/// The number of the request, and the text.
+pub(crate) const COMMENT: &str = r#"<form method="post" action="/desk/requests/{}/comment">
+<label for="comment">Comment, for those who may see comments</label>
+<textarea id="comment" name="text" rows="5" dir="auto" required>
+{}</textarea>
+<button>Comment</button>
+</form>"#;
