@@ -1,4 +1,5 @@
 pub mod Apart
+mod Examples
 pub mod Forms
 pub mod Refused
 pub mod Serving
