@@ -9,7 +9,7 @@ JOBS ?= $(shell awk -v n=$$(nproc) '/^MemAvailable/ { j = 1 + int(($$2 / 1000000
 
 # The crates whose wrong edits the gate doesn't try: bench/edits hasn't been seen yet to refuse each of
 # theirs. `make edits NAME=CRATE` tries one crate's; where each is refused, its name goes from here.
-UNTRIED = check_core desk_load desk_pages desk_program load_core page_wire service_core store_core \
+UNTRIED = check_core desk_load desk_program load_core page_wire service_core store_core \
 	store_tables wire_core
 
 # All others that have any.
