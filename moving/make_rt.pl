@@ -23,9 +23,11 @@ my $SYSTEM = RT->SystemUser;
 my $BEGIN = timegm(0, 0, 9, 2, 2, 2026);    # a Monday in March
 my $SPAN = 60 * 86400;
 srand(20261127);
-$RT::Handle->dbh->do('PRAGMA synchronous = OFF');
-# RT's tables of SQLite lack these two, and each step would read all of both
-$RT::Handle->dbh->do("CREATE UNIQUE INDEX by_id_$_ ON $_ (id)") for qw(Groups Users);
+if (RT->Config->Get('DatabaseType') eq 'SQLite') {
+    $RT::Handle->dbh->do('PRAGMA synchronous = OFF');
+    # RT's tables of SQLite lack these two, and each step would read all of both
+    $RT::Handle->dbh->do("CREATE UNIQUE INDEX by_id_$_ ON $_ (id)") for qw(Groups Users);
+}
 $NOW = $BEGIN - 3600;
 
 sub pick { return $_[rand @_] }
