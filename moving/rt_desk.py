@@ -10,7 +10,7 @@ HERE = os.path.dirname(os.path.abspath(__file__))
 VERSIONS = {"5.0": "5", "4.4": "4"}
 PACKAGES = [*(f"{name}{it}{rest}" for it in VERSIONS.values()
               for name, rest in (("request-tracker", ""), ("rt", "-db-sqlite"), ("rt", "-standalone"))),
-            "libdbd-pg-perl", "libdbd-mysql-perl", "mariadb-server", "postgresql"]
+            "rt5-clients", "libdbd-pg-perl", "libdbd-mysql-perl", "mariadb-server", "postgresql"]
 # what the packages ask for, and what isn't used here: a mailer, fonts, pages of a manual
 UNUSED = ("exim4", "fonts-", "dbconfig-", "graphviz", "perl-doc")
 # the scrips that move a status, and that set a due moment; the others write letters
@@ -70,6 +70,7 @@ class Packages:
             subprocess.run(["dpkg", "-x", package, self.root], check=True)
         for number in VERSIONS.values():
             self.here(os.path.join(self.share(number), "lib", "RT", "Generated.pm"))
+            self.here(os.path.join(self.share(number), "libexec", "rt-server"))
             self.here(os.path.join(self.root, "usr", "sbin", f"rt-setup-database-{number}"))
         with open(os.path.join(self.folder, "fetched"), "w", encoding="utf-8"):
             pass
@@ -117,9 +118,11 @@ class RT:
 
     def new_tables(self):
         """RT's own tables of a desk that has nobody yet, with no letters to write."""
-        self.perl(os.path.join(self.packages.root, "usr", "sbin", f"rt-setup-database-{self.number}"),
-                  "--action", "init", "--skip-create", "--dba", self.database.words().get("RT_TRY_USER", "root"),
-                  "--dba-password", "", stdout=subprocess.DEVNULL)
+        user = self.database.words().get("RT_TRY_USER", "root")
+        setup = os.path.join(self.packages.root, "usr", "sbin", f"rt-setup-database-{self.number}")
+        with open(os.path.join(self.database.room, "setup.log"), "wb") as log:
+            self.perl(setup, "--action", "init", "--skip-create", "--dba", user, "--dba-password", "",
+                      stdout=log, stderr=log)
         names = ", ".join(f"'{name}'" for name in KEPT)
         self.database.sql(f"UPDATE Scrips SET Disabled = CASE WHEN Description IN ({names})"
                           " THEN 0 ELSE 1 END;")
