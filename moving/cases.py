@@ -3,6 +3,7 @@ of them. A case is a file NAME.case: on its first line what it is, then SQL, and
 is wanted:
 
     -- line: WORDS       a line of the move, without its moment        -- no line: WORDS  in none
+    -- whole line: LINE  a line with its moment
     -- report: N KIND    a row of the report
     -- setting: TEXT     stands in settings.toml                       -- no setting: TEXT
     -- person: ROW       a row of people.tsv
@@ -26,7 +27,7 @@ import sys
 
 HERE = os.path.dirname(os.path.abspath(__file__))
 FOLDER = os.path.join(HERE, "cases")
-KEYS = ("line", "no line", "report", "setting", "no setting", "person", "token", "no token", "file", "desk",
+KEYS = ("line", "no line", "whole line", "report", "setting", "no setting", "person", "token", "no token", "file", "desk",
         "fault")
 TOKEN = "[0-9a-f]{32}"
 
@@ -103,7 +104,8 @@ class Outcome:
         done = self.python("from_rt.py", tables, self.config, self.out, *options)
         self.fault = done.stderr
         self.is_moved = done.returncode == 0
-        self.lines = [line.partition(" ")[2] for line in text_of(self.out, "lines").split("\n")]
+        self.whole_lines = text_of(self.out, "lines").split("\n")
+        self.lines = [line.partition(" ")[2] for line in self.whole_lines]
         self.report = [" ".join(line.split()) for line in text_of(self.out, "report.txt").split("\n")]
 
     def python(self, name, *words):
@@ -130,6 +132,8 @@ class Outcome:
         """Whether that is so; of the desk's file None where there is none."""
         if key == "line":
             return text in self.lines
+        if key == "whole line":
+            return text in self.whole_lines
         if key == "no line":
             return not any(text in line for line in self.lines)
         if key == "report":

@@ -46,8 +46,11 @@ class Sqlite:
             subprocess.run(["sqlite3", "-readonly", "-tabs", self.path], input=text.encode(), stdout=file,
                            check=True)
 
-    def written(self, *_):
-        """The tables as from_rt.py reads them."""
+    def tables(self):
+        """Where the tables stand as from_rt.py reads them, once they are written."""
+        return self.path
+
+    def written(self, _):
         return self.path
 
 
@@ -87,12 +90,14 @@ class Server:
     def sql(self, text):
         self.run(*self.client("rt"), input=text.encode(), stdout=subprocess.DEVNULL)
 
-    def written(self, program, out):
-        """The tables as from_rt.py reads them: its program writes them by the client."""
-        path = shutil.which("sh")
-        with open(out, "wb") as file:
-            self.run(path, program, *self.client("rt")[1:], stdout=file)
-        return out
+    def tables(self):
+        return os.path.join(self.room, "tables")
+
+    def written(self, program):
+        """Lets the client write them, by from_rt.py's program."""
+        with open(self.tables(), "wb") as file:
+            self.run("sh", program, *self.client("rt")[1:], stdout=file)
+        return self.tables()
 
 
 class Postgres(Server):
