@@ -63,8 +63,13 @@ def write(folder, name, text):
     """A file that its owner alone can read: all of these tell of people."""
     with owned(os.path.join(folder, name)) as file:
         file.write(text)
-    if name.endswith(".toml") and len(text.encode()) > LONGEST:
-        print(f"{name} is longer than {LONGEST:,} bytes, and the desk doesn't read it")
+
+
+def check_length(folder, *names):
+    for name in names:
+        if os.path.getsize(os.path.join(folder, name)) > LONGEST:
+            raise Fault(f"{name} is longer than {LONGEST:,} bytes, and the desk doesn't read it: there are"
+                        " too many people, or too many tokens")
 
 
 def check_numbers(source, keeps_numbers):
@@ -93,6 +98,9 @@ def bodies(place, with_files):
 
 def move(words):
     report, keeps_numbers = Report(), not words.new_numbers
+    for path in filter(None, (words.tokens, words.files)):
+        if os.path.lexists(path):
+            raise Fault(f"{path} is there already")
     with open(words.config, encoding="utf-8") as file:
         configuration = json.load(file)
     place = open_tables(words.tables)
@@ -119,6 +127,7 @@ def move(words):
     told = f"{len(source.tickets):,} tickets became {replay.count:,} lines\n\n{report.text()}"
     write(words.out, "report.txt", told)
     print(told, end="")
+    check_length(words.out, "settings.toml", "import.toml")
 
 
 def words_of(arguments):
