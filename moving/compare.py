@@ -31,6 +31,8 @@ FIELDS = ("queue", "subject", "created", "status", "statuses", "owner", "level",
 COLUMNS = ("queue", "subject", "created", "status", "owner", "level", "due")
 # of a merged ticket RT has no state of its own
 OF_MERGED = ("queue", "subject", "created", "texts")
+# and of one whose history is too long for the desk, how it stands at the end
+OF_CUT = tuple(field for field in FIELDS if field not in ("statuses", "texts"))
 LISTS = {
     "people": "SELECT request, role, person FROM watcher ORDER BY request",
     "links": "SELECT source, kind, target FROM link ORDER BY source",
@@ -193,6 +195,7 @@ class Comparison:
         self.wanted = Wanted(source, names, bodies)
         self.due = Due(source, names, self.wanted.lives)
         self.tickets = {number: id for id, number in self.wanted.numbers.items()}
+        self.cut = set(names["cut"])
         self.right, self.wrong = collections.Counter(), collections.Counter()
         self.due_counts = collections.Counter()
 
@@ -209,7 +212,7 @@ class Comparison:
             row = self.source.tickets[self.tickets[number]]
             missing.discard(row.id)
             wanted = self.wanted.of(row)
-            for field in OF_MERGED if row.id in self.due.merged else FIELDS:
+            for field in self.fields(row.id):
                 if wanted[field] == found[field]:
                     self.right[field] += 1
                 else:
@@ -217,6 +220,9 @@ class Comparison:
             self.compare_due(row, found)
         for id in sorted(missing):
             self.tell(self.source.tickets[id], "request", "there", "none")
+
+    def fields(self, id):
+        return OF_MERGED if id in self.due.merged else OF_CUT if id in self.cut else FIELDS
 
     def compare_due(self, row, found):
         wanted = self.due.moments.get(row.id)
@@ -234,6 +240,8 @@ class Comparison:
         for field in (*FIELDS, "due", "request"):
             if self.right[field] or self.wrong[field]:
                 print(f"{field:<10} {self.right[field]:>8,} the same {self.wrong[field]:>6,} others")
+        if self.cut:
+            print(f"{len(self.cut):,} histories were too long, and are cut")
         print("due moments:")
         for kind in sorted({kind for kind, _ in self.due_counts}):
             same, other = (self.due_counts[kind, is_same] for is_same in (True, False))

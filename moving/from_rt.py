@@ -122,7 +122,8 @@ def move(words):
     write(words.out, "settings.toml", settings(wording, rights, keeps_numbers, tokens))
     write(words.out, "import.toml", settings(wording, None, keeps_numbers))
     write(words.out, "names.json", json.dumps(
-        {**wording.told(replay.requests), "files": bool(words.files)}, ensure_ascii=False, indent=1))
+        {**wording.told(replay.requests), "files": bool(words.files), "cut": sorted(replay.cut)},
+        ensure_ascii=False, indent=1))
     write(words.out, "people.tsv", report.names_text())
     told = f"{len(source.tickets):,} tickets became {replay.count:,} lines\n\n{report.text()}"
     write(words.out, "report.txt", told)

@@ -54,7 +54,7 @@ class Replay:
         self.report, self.begun = source.report, source.beginnings
         self.count, self.number, self.requests = 0, 0, {}
         self.links, self.depends = set(), collections.defaultdict(list)
-        self.boss = source.system
+        self.boss, self.cut = source.system, set()
         self.waiting = collections.deque(sorted(source.tickets))
         self.begin = min((row.created for row in source.tickets.values()), default=FIRST)
         self.end = self.begin
@@ -261,6 +261,7 @@ class Replay:
         """Says what a transaction did. Where it says nothing, it answers why."""
         request, moment = self.requests[it.ticket], it.created
         if request.entries > LAST_ENTRY:
+            self.cut.add(it.ticket)
             self.report.left(f"transaction behind the first {LAST_ENTRY:,} entries of a history")
             return "left out, since its ticket's history is too long"
         if it.type in WRITING:
@@ -377,5 +378,4 @@ class Replay:
         for link in sorted(set(wanted) - self.links):
             row = wanted[link]
             moment = self.source.moment(row.created, self.end)
-            creator = self.boss if row.creator is None else row.creator
-            self.have_link(moment, creator, link, True, "link of a filing or a merge")
+            self.have_link(moment, row.creator or self.boss, link, True, "link of a filing or a merge")

@@ -64,7 +64,7 @@ class Source:
                     created=moment, status=sys.intern(status_in(row.status)),
                     level=sys.intern(row.level) if row.level else None, type=None,
                     owner=row.owner if row.owner in self.users else self.nobody,
-                    creator=self.system if row.creator is None else row.creator)
+                    creator=row.creator or self.system)
                 continue
             kind = "ticket of a queue that is gone" if kind == "ticket" \
                 else f"{kind}, which RT keeps as a ticket"
@@ -112,7 +112,7 @@ class Source:
                         else min(max(it.created or moment, FIRST), END - 1)
                     it = it._replace(created=found)
                 moment = it.created
-                if it.creator is None:
+                if not it.creator:
                     it = it._replace(creator=self.system)
             yield it
 
