@@ -7,7 +7,8 @@ counts. The status is 1 where something differs that the move should have carrie
 TABLES, CONFIG and OUT are those of from_rt.py, and FILE is the desk's. Of a ticket RT's own rows are
 asked as they stand at the end, not what from_rt.py made of them, but for the names, and for texts,
 which are read as it reads them: that none is missing, counts.py says. Due moments are compared by
-kind: they have to be the same where nothing happened that RT counts by another rule."""
+kind: they have to be the same where nothing happened that RT counts by another rule; the others stand
+in OUT/dues.tsv, each with its reason."""
 import collections
 import datetime
 import itertools
@@ -24,6 +25,7 @@ from kinds import KINDS, ROLES, merges, sets_status, status_in
 from report import Report
 from rows import open_tables, read
 from source import Source
+from tokens import owned
 
 SHOWN = 40
 FIELDS = ("queue", "subject", "created", "status", "statuses", "owner", "level", "requestor", "cc",
@@ -39,6 +41,12 @@ LISTS = {
     "texts": "SELECT request, body FROM entry WHERE kind IN (4, 5) ORDER BY request, number",
     "statuses": "SELECT request, status, begun FROM stay ORDER BY request, number",
 }
+
+
+def day(minute):
+    if minute is None:
+        return "-"
+    return datetime.datetime.fromtimestamp(minute * 60, datetime.timezone.utc).strftime("%Y-%m-%d %H:%M")
 
 
 def without_empty(stays):
@@ -197,7 +205,7 @@ class Comparison:
         self.tickets = {number: id for id, number in self.wanted.numbers.items()}
         self.cut = set(names["cut"])
         self.right, self.wrong = collections.Counter(), collections.Counter()
-        self.due_counts = collections.Counter()
+        self.due_counts, self.dues = collections.Counter(), []
 
     def tell(self, row, field, wanted, found):
         self.wrong[field] += 1
@@ -234,6 +242,14 @@ class Comparison:
             else:
                 self.tell(row, "due", wanted, found["due"])
         self.due_counts[kind, is_same] += 1
+        if not is_same:
+            self.dues.append((row.id, wanted, found["due"], kind))
+
+    def write_dues(self, folder):
+        """Each due moment that is another, in RT and here, and why."""
+        with owned(os.path.join(folder, "dues.tsv")) as file:
+            for id, wanted, found, kind in self.dues:
+                file.write(f"{id}\t{day(wanted)}\t{day(found)}\t{kind}\n")
 
     def end(self):
         print(f"{len(self.source.tickets):,} tickets compared")
@@ -263,6 +279,7 @@ def main():
     bodies = texts.Texts(rows, Report(), Places() if names["files"] else Nowhere())
     comparison = Comparison(source, names, bodies)
     comparison.run(requests_of(path))
+    comparison.write_dues(folder)
     return comparison.end()
 
 

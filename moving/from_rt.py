@@ -11,7 +11,8 @@ CONFIG is what moving/config.pl prints. OUT is a folder, made here, into which i
     import.toml     the same people, statuses and levels with everything allowed, for the move alone
     lines           MOMENT CALLER COMMAND .., a line each, as after the %% of a script
     report.txt      what is left out, by kind and count; what became of each kind of transaction
-    people.tsv      each name of RT's beside the one that it has here
+    people.tsv      each name of RT's beside the one that it has here; the report ends with it
+    left.tsv        of what is left out or carried in another form, the tickets' numbers, by kind
     fates.tsv       each transaction: its number, its first line, how many lines, what became of it
     names.json      which name and which number became which, for compare.py
 
@@ -85,8 +86,9 @@ def leave_out(source, replay):
     for row in source.rows("others"):
         report.left(row.kind, row.count)
     report.left("address, password and real name of a user", len(source.users) - 2)
-    report.left("priority of a ticket", sum(bool(row.priority) for row in source.tickets.values()))
-    report.left("time worked on a ticket", sum(bool(row.worked) for row in source.tickets.values()))
+    for row in source.tickets.values():
+        report.left("priority of a ticket", bool(row.priority), row.id)
+        report.left("time worked on a ticket", bool(row.worked), row.id)
     report.left("seconds of a moment", replay.count)
 
 
@@ -126,7 +128,8 @@ def move(words):
         ensure_ascii=False, indent=1))
     write(words.out, "people.tsv", report.names_text())
     told = f"{len(source.tickets):,} tickets became {replay.count:,} lines\n\n{report.text()}"
-    write(words.out, "report.txt", told)
+    write(words.out, "left.tsv", report.tickets_text())
+    write(words.out, "report.txt", f"{told}\nNames, in RT and here:\n{report.names_text()}")
     print(told, end="")
     check_length(words.out, "settings.toml", "import.toml")
 

@@ -61,7 +61,6 @@ class Replay:
 
     def say(self, moment, user, verb, *words):
         self.count += 1
-        self.report.commands[verb] += 1
         self.out.write(" ".join([str(moment), self.names.person(user), verb, *map(str, words)]) + "\n")
 
     def tell(self, moment, user, verb, request, *words):
@@ -154,7 +153,7 @@ class Replay:
             requestors = sorted(request.people[0])
             if request.status in request.lifecycle.inactive or not requestors:
                 self.tell(row.created, row.creator, "comment", request, after_options(text))
-                self.report.other("first text as a comment: nobody asked, or it was filed as done")
+                self.report.other("first text as a comment: nobody asked, or it was filed as done", 1, it.ticket)
                 continue
             who = row.creator if row.creator in requestors else requestors[0]
             self.report.other("first text as a reply" if who == row.creator
@@ -241,7 +240,7 @@ class Replay:
     def have_link(self, moment, user, link, is_wanted=True, why=None):
         base, kind, target = link
         if base not in self.source.tickets or target not in self.source.tickets or base == target:
-            self.report.left("link to what isn't carried, or to itself")
+            self.report.left("link to what isn't carried, or to itself", 1, base)
             return "left out, a link to what isn't carried, or to itself"
         if (link in self.links) == is_wanted:
             return ALREADY
@@ -262,7 +261,7 @@ class Replay:
         request, moment = self.requests[it.ticket], it.created
         if request.entries > LAST_ENTRY:
             self.cut.add(it.ticket)
-            self.report.left(f"transaction behind the first {LAST_ENTRY:,} entries of a history")
+            self.report.left(f"transaction behind the first {LAST_ENTRY:,} entries of a history", 1, it.ticket)
             return "left out, since its ticket's history is too long"
         if it.type in WRITING:
             return self.written(it, request, moment)
@@ -310,18 +309,18 @@ class Replay:
             return self.merged(it, request, moment, other) if merges(it) else \
                 "nothing, the line of the other end of its merge"
         if other is None:
-            self.report.left("link to an address")
+            self.report.left("link to an address", 1, it.ticket)
             return "left out, a link to an address"
         if it.field in KINDS:
             return self.have_link(moment, it.creator, (it.ticket, it.field, other), is_new)
         if it.field in INVERSES:
             return self.have_link(moment, it.creator, (other, INVERSES[it.field], it.ticket), is_new)
-        self.report.left(f"link of the kind {it.field}")
+        self.report.left(f"link of the kind {it.field}", 1, it.ticket)
         return "left out, a link of another kind"
 
     def merged(self, it, request, moment, into):
         """The desk merges nothing: the ticket stays for itself, closed, and refers to the other."""
-        self.report.other("merged ticket, which stands closed and refers to the other")
+        self.report.other("merged ticket, which stands closed and refers to the other", 1, it.ticket)
         self.have_link(moment, it.creator, (it.ticket, "RefersTo", into))
         request.merged = True
         if into in self.requests:
@@ -338,7 +337,7 @@ class Replay:
         if kind in SILENT or kind == ("Set", "Due") and it.creator == self.source.system:
             return "nothing, RT wrote down what follows from the others"
         told = "due moment set by hand" if kind == ("Set", "Due") else LEFT.get(kind)
-        self.report.left(told or "transaction that the desk has no word for")
+        self.report.left(told or "transaction that the desk has no word for", 1, it.ticket)
         return f"left out, {told or 'the desk has no word for it'}"
 
     # ---- what RT did without a transaction
@@ -364,7 +363,7 @@ class Replay:
         """A merge that only the ticket's row tells."""
         request = self.requests[id]
         request.merged = True
-        self.report.other("merged ticket, which stands closed and refers to the other")
+        self.report.other("merged ticket, which stands closed and refers to the other", 1, id)
         self.have_link(self.end, self.boss, (id, "RefersTo", into), True, "link of a merge")
         self.have_status(self.end, self.boss, request, request.lifecycle.closing(), "status of a merge")
 

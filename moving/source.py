@@ -69,7 +69,7 @@ class Source:
             kind = "ticket of a queue that is gone" if kind == "ticket" \
                 else f"{kind}, which RT keeps as a ticket"
             self.other_tickets[row.id] = kind
-            self.report.left(kind)
+            self.report.left(kind, 1, row.id)
         for row in self.rows("level_values"):
             if row.ticket in self.tickets and not self.tickets[row.ticket].level:
                 self.tickets[row.ticket] = self.tickets[row.ticket]._replace(level=row.level)
@@ -82,11 +82,11 @@ class Source:
             if row.ticket not in self.tickets:
                 continue
             if row.role not in ROLES:
-                self.report.left("person or group in a custom role of a ticket")
+                self.report.left("person or group in a custom role of a ticket", 1, row.ticket)
             elif row.member in self.users:
                 found[row.ticket][ROLE_PLACES[row.role]].append(row.member)
             else:
-                self.report.left("group as a watcher of a ticket")
+                self.report.left("group as a watcher of a ticket", 1, row.ticket)
         shared, none = {}, (NOBODY, NOBODY, NOBODY)
         self.people = {id: none for id in self.tickets}
         for id, those in found.items():

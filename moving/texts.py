@@ -107,7 +107,7 @@ class Texts:
     def of(self, ticket, transaction, is_writing):
         """The parts of its text. Who writes says something: without a text, that there is none."""
         rows = self.attachments(transaction)
-        said = self.words([row for row in rows if kind_of(row) in ("text", "page")])
+        said = self.words(ticket, [row for row in rows if kind_of(row) in ("text", "page")])
         named = [self.file(ticket, transaction, row) for row in rows if kind_of(row) == "file"]
         self.report.attached("that only holds others",
                              sum(kind_of(row) == "holder" for row in rows))
@@ -115,48 +115,48 @@ class Texts:
             said += "\n" if said.endswith("\n") else "\n\n"
         text = said + "\n".join(named)
         if not said and named:
-            self.report.other("text that is nothing but a file")
+            self.report.other("text that is nothing but a file", 1, ticket)
         if not text and is_writing:
-            self.report.other(f"text that is empty, told as {NOTHING}")
+            self.report.other(f"text that is empty, told as {NOTHING}", 1, ticket)
             text = NOTHING
         if len(text) > LONGEST:
             self.report.other("text of more than 20,000 characters, cut into parts")
         return parts(text)
 
-    def words(self, rows):
+    def words(self, ticket, rows):
         """All that is written there; of a text and a page beside it, the text."""
         beside = {row.parent for row in rows if kind_of(row) == "text"}
         found = []
         for row in rows:
             if kind_of(row) == "page" and row.parent in beside:
-                self.report.left("HTML beside a plain text")
+                self.report.left("HTML beside a plain text", 1, ticket)
                 self.report.attached("HTML beside a plain text")
                 continue
             self.report.attached("text")
-            found.append(self.one(row))
+            found.append(self.one(ticket, row))
         return "\n\n".join(it for it in found if it.strip()) or "".join(found)
 
-    def one(self, row):
+    def one(self, ticket, row):
         content = decoded(row)
         text = content.decode("utf-8", "replace")
         if text.encode() != content:
-            self.report.other("text with bytes that are no UTF-8, shown as �")
+            self.report.other("text with bytes that are no UTF-8, shown as �", 1, ticket)
         if kind_of(row) == "page":
             text = of_page(text)
-            self.report.other("HTML made a plain text")
+            self.report.other("HTML made a plain text", 1, ticket)
         clean = cleaned(text)
         if clean != text.replace("\r\n", "\n"):
-            self.report.left("text's control characters")
+            self.report.left("text's control characters", 1, ticket)
         return clean
 
     def file(self, ticket, transaction, row):
         self.report.attached("file, named in the text")
         name = shown(row.name or "") or row.type or "without a name"
         if row.encoding == "external":
-            self.report.left("file that RT keeps outside its database")
+            self.report.left("file that RT keeps outside its database", 1, ticket)
             return f"(a file: {name}, kept outside the database)"
         place = self.files.put(ticket, transaction, row.name or "file", decoded(row))
-        self.report.left("file that was attached, named in its text", place is None)
+        self.report.left("file that was attached, named in its text", place is None, ticket)
         self.report.other("file that was attached, written out", place is not None)
         return f"(a file: {name}, {size_of(row):,} bytes{', in ' + place if place else ''})"
 
