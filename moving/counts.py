@@ -9,7 +9,8 @@ FILE the desk's, if it is loaded already. It asks:
 - whether each transaction of RT stands once in fates.tsv, and each kind in the report, as often as
   the database has it;
 - whether each filing, reply and comment of a ticket that is carried has its line, of its own sort;
-- whether the texts name as many files as were attached to them;
+- whether the texts name as many files as were attached to them, and whether the report has as many
+  attachments of tickets as the database;
 - whether the desk's histories have as many entries of each sort as there are lines."""
 import array
 import collections
@@ -57,8 +58,8 @@ class Lines:
 class Counting:
     def __init__(self, lines):
         self.lines, self.wrong = lines, 0
-        self.carried, self.files = set(), collections.Counter()
-        self.kinds = collections.Counter()
+        self.carried, self.files, self.attachments = set(), collections.Counter(), collections.Counter()
+        self.kinds, self.named, self.attached = collections.Counter(), 0, 0
 
     def tell(self, what):
         self.wrong += 1
@@ -72,6 +73,7 @@ class Counting:
             if words[0] == "ticket" and words[2] == "ticket" and words[3] == "queue":
                 self.carried.add(words[1])
             elif words[0] == "attachment":
+                self.attachments[int(words[1])] += 1
                 if is_file(*words[2:6]):
                     self.files[words[1]] += 1
             elif words[0] == "transaction":
@@ -84,6 +86,7 @@ class Counting:
         id, ticket, what, kind, field = words
         is_of_ticket = what == "RT::Ticket"
         field = "" if kind == "CustomField" else field
+        self.attached += self.attachments[int(id)] if is_of_ticket else 0
         self.kinds[f"{kind or 'of no type'} {field}".strip() if is_of_ticket else f"of {what}"] += 1
         if fate is None or fate[0] != id:
             return self.tell(f"transaction {id} has no row in fates.tsv, where {fate} stands")
@@ -94,22 +97,26 @@ class Counting:
         if not any(verb in TEXTS[kind] for verb in verbs):
             return self.tell(f"transaction {id}, {kind} of ticket {ticket}, has no line of its own")
         named = sum(self.lines.files[at] for at in range(first, first + count))
+        self.named += self.files[id]
         if named < self.files[id]:
             return self.tell(f"transaction {id} names {named} of its {self.files[id]} files")
         return None
 
     def report(self, path):
         """What the report says of each kind has to add up to what the database has of it."""
-        told, is_there = collections.Counter(), False
+        told, is_there, attached = collections.Counter(), False, -1
         with open(path, encoding="utf-8") as file:
             for line in file:
                 if line.startswith("What became of all"):
                     is_there = "transactions" in line
+                    attached = attached if is_there else int(line.split()[4].replace(",", ""))
                 elif is_there and (found := re.fullmatch(r" *([0-9,]+) ([^:]*(?:::[^:]*)*): .*\n", line)):
                     told[found[2]] += int(found[1].replace(",", ""))
         for kind in sorted({*told, *self.kinds}):
             if told[kind] != self.kinds[kind]:
                 self.tell(f"the report has {told[kind]:,} {kind}, and RT {self.kinds[kind]:,}")
+        if attached != self.attached:
+            self.tell(f"the report has {attached:,} attachments of tickets, and RT {self.attached:,}")
 
     def desk(self, path):
         file = sqlite3.connect(f"file:{path}?mode=ro", uri=True)
@@ -146,8 +153,8 @@ def main():
     counting.report(os.path.join(out, "report.txt"))
     if len(sys.argv) == 4:
         counting.desk(sys.argv[3])
-    print(f"{sum(counting.kinds.values()):,} transactions and {sum(counting.files.values()):,} files"
-          f" of RT, {len(counting.lines.verbs):,} lines: {counting.wrong:,} wrong")
+    print(f"{sum(counting.kinds.values()):,} transactions and {counting.named:,} files of RT,"
+          f" {len(counting.lines.verbs):,} lines: {counting.wrong:,} wrong")
     return 1 if counting.wrong else 0
 
 
