@@ -2,6 +2,7 @@
 none of them tells was then as it is now."""
 from kinds import ROLES, ROLE_PLACES, merges, sets_owner, sets_status, status_in, user_in
 
+LETTERS = ("EmailRecord", "CommentEmailRecord")
 LOOKED_AT = 3    # so many transactions behind a reply may be RT's rule at work on it
 
 
@@ -35,7 +36,10 @@ class Beginnings:
             self.merged.append((it.ticket, merges(it)))
 
     def look_behind_reply(self, it):
-        """Finds the move that RT's rule made of a reply: by RT itself, at once."""
+        """Finds the move that RT's rule made of a reply: by RT itself, at once. The letters that it sent
+        meanwhile don't count."""
+        if it.type in LETTERS:
+            return
         reply = self.waiting.pop(it.ticket, None)
         if it.type == "Correspond":
             self.waiting[it.ticket] = (it.id, it.created, LOOKED_AT)

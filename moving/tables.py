@@ -17,6 +17,8 @@ OTHERS = {
     "value of a custom field": "ObjectCustomFieldValues WHERE Disabled = 0",
     "saved search, dashboard or preference": "Attributes WHERE Name <> 'SLA'",
     "custom role": "CustomRoles WHERE Disabled = 0",
+    "attachment of what is no ticket": "Attachments WHERE NOT EXISTS (SELECT 1 FROM Transactions"
+                                       " WHERE Transactions.id = TransactionId AND ObjectType = 'RT::Ticket')",
 }
 IS_LEVEL_FIELD = "CustomFields.Name = 'SLA' AND CustomFields.LookupType = 'RT::Queue-RT::Ticket'"
 
