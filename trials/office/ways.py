@@ -71,7 +71,7 @@ class Browser:
     """The pages, with a cookie for each person, as a browser keeps it."""
 
     def __init__(self, port, tokens):
-        self.port, self.tokens, self.cookies = port, tokens, {}
+        self.port, self.tokens, self.cookies, self.last = port, tokens, {}, None
 
     def get(self, by, path):
         """A page, after signing in where that is asked."""
@@ -105,7 +105,7 @@ class Browser:
 
     def page(self, by, name, path):
         """The code and the facts of a page."""
-        reply = self.get(by, path)
+        self.last = reply = self.get(by, path)
         return reply and (reply.code, reader.facts_of(name, reply.code, reply.text()))
 
     def reading(self, ask):
