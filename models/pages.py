@@ -19,7 +19,7 @@ def page(desk, at, caller, name, *words):
         return 200, {"home": home, "queue": queue, "find": find, "request": request, "late": late,
                      "workload": workload, "new": new}[name](desk, at, caller, *words)
     except Refused as refusal:
-        return code_of(refusal), {"refused": refusal_text(refusal)}
+        return code_of(refusal), {"refused": refusal_text(refusal), "back": "/"}
 
 
 def code_of(refusal):

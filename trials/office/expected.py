@@ -33,15 +33,21 @@ def by_form(desk, ask):
         try:
             answer = desk.ask(ask.at, ask.by, name, words)
         except Refused as refusal:
-            return pages.code_of(refusal), refusal_facts(ask, refusal, done)
+            return pages.code_of(refusal), refusal_facts(ask, refusal, filed, done)
         filed, done = (answer, True) if name == "create" else (filed, True)
     number = filed if ask.name == "create" else None if ask.name == "queue" else ask.words[0]
     return 303, f"/desk/requests/{number}" if number is not None else "/"
 
 
-def refusal_facts(ask, refusal, is_half):
-    """A form that had a text has it still, but where the text was sent and the move after it wasn't."""
-    facts = {"refused": pages.refusal_text(refusal)}
+def refusal_facts(ask, refusal, filed, is_half):
+    """A form that had a text has it still, but where the text was sent and the move after it wasn't. The way
+    back leads to what the form was on, as far as the caller may know of it."""
+    back = "/"
+    if filed is not None:
+        back = f"/desk/requests/{filed}"
+    elif refusal.name != "NotFound" and ask.name != "queue":
+        back = f"/desk/queues/{ask.words[0]}" if ask.name == "create" else f"/desk/requests/{ask.words[0]}"
+    facts = {"refused": pages.refusal_text(refusal), "back": back}
     typed = {"create": ask.then or "", "correspond": ask.words[-1], "comment": ask.words[-1]}.get(ask.name)
     if typed is not None and not (is_half and ask.name == "correspond"):
         facts["typed"] = typed.replace("\r\n", "\n")

@@ -320,6 +320,7 @@ class Plan:
                 continue
             if made.name == "create":
                 made.words[1] = f"{self.choose.choice(texts.THINGS)} at once {len(self.steps)}-{len(asks)}"
+                made.then = made.then and "at once"
             elif made.words[0] in used:
                 continue
             used.add(made.request())

@@ -215,10 +215,11 @@ def named(change, list_name):
 # ---- refusals
 
 def refused(top):
-    """The refusal of a page, and the text that is still in its form."""
+    """The refusal of a page, the text that is still in its form, and the way back."""
     code = top.one("code")
     area = next(top.all("textarea"), None)
-    return {"refused": code.text() if code else None,
+    backs = [it.marks["href"] for it in top.one("main").all("a", "button")]
+    return {"refused": code.text() if code else None, "back": backs[-1] if backs else None,
             **({"typed": area.raw().removeprefix("\n")} if area else {})}
 
 

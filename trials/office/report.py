@@ -14,7 +14,7 @@ WAYS = {"page": "a browser's forms and pages", "http": "the interface", "shell":
 
 def told(trial, given, seconds):
     figures = trial.figures
-    lines = [f"seed {given.seed}, {given.days} working days: {figures.total()} answers in {seconds / 60:.1f} minutes"]
+    lines = [f"seed {given.seed}, {len(figures.nights)} working days: {figures.total()} answers in {seconds / 60:.1f} minutes"]
     lines += [f"  {name}: {count}" for name, count in sorted(figures.faults.items())]
     lines += [f"  compared besides: {count} {name}" for name, count in sorted(figures.compared.items())]
     lines += [f"  {way}: {count}, in the middle {middle:.2f} ms, at most {most:.0f} ms"
@@ -65,7 +65,7 @@ def page(trial, given, seconds):
     last = figures.nights[-1]
     return "\n\n".join([
         "# A year of an office",
-        f"`trials/year --seed {given.seed} --days {given.days} --bench` writes this page. It ran {given.days} working "
+        f"`trials/year --seed {given.seed} --days {given.days} --bench` writes this page. It ran {len(figures.nights)} working "
         f"days of an office of fifty, from {day_of(figures.nights[0][0])} to {day_of(last[0])} by its own clock, in "
         f"{seconds / 60:.1f} minutes on {os.cpu_count()} processors beside other work. What it does stands in "
         "[its head](../trials/year).",

@@ -48,10 +48,11 @@ def is_unavailable(answer):
 
 
 def number_filed(answer):
-    """The number that an answer to a filing tells, or None."""
+    """The number that an answer to a filing tells, or None. A page of a text that was refused leads back to
+    the request that was filed."""
     if answer is None:
         return None
-    text = next((it for it in answer if isinstance(it, str)), "")
+    text = next((it if isinstance(it, str) else it.get("back") or "" for it in answer if not isinstance(it, int)), "")
     word = text.strip("\n").replace("/", " ").split(" ")
     return int(word[-1]) if word[-1].isdigit() and ("request" in word or "requests" in word) else None
 

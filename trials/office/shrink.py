@@ -1,13 +1,16 @@
-"""Cuts steps that differ down to the fewest that still do. What can be left out is tried in halves, then in
-quarters, and so on down to single steps."""
+"""Cuts steps that differ down to the fewest that still do, in the same way. What can be left out is tried in
+halves, then in quarters, and so on down to single steps. The first step, which has the settings, stays."""
 
 
-def fewest(steps, differs, told=print):
-    """The steps that are left. `differs` runs steps and answers the place of the first that differs, or
-    None."""
-    place = differs(steps)
-    if place is None:
-        return None
+def label(step, what):
+    """What makes a difference the same: the kind of its step and of its ask, and how the telling begins."""
+    ask = step.get("ask", {})
+    return step["do"], ask.get("way"), ask.get("name"), what.split(" ")[0].split("(")[0]
+
+
+def fewest(steps, place, differs, told=print):
+    """The steps that are left of those up to this place. `differs` runs steps and answers the place of the
+    first that differs, or None."""
     steps = first_guess(steps[:place + 1], differs)
     size = len(steps) // 2
     while size >= 1:
@@ -22,7 +25,9 @@ def first_guess(steps, differs):
     names = numbers_in(steps[-1])
     few = [it for it in steps[:-1] if it["do"] == "settings" or is_queue(it) or names & numbers_in(it)]
     place = differs([*few, steps[-1]]) if names else None
-    return [*few, steps[-1]][:place + 1] if place is not None else steps
+    if place is not None:
+        return [*few, steps[-1]][:place + 1]
+    return steps if differs(steps) is not None else []
 
 
 def is_queue(step):
@@ -42,7 +47,7 @@ def numbers_in(step):
 
 def without(steps, size, differs):
     """The steps but for those pieces of this size without which they differ too. The last one stays."""
-    start = 0
+    start = 1
     while start < len(steps) - 1:
         fewer = steps[:start] + steps[min(start + size, len(steps) - 1):]
         place = differs(fewer)
