@@ -70,7 +70,7 @@ class Calendar:
 
     def local(self, moment):
         """What clocks show at a moment, as the moment that they would show at no offset; or None."""
-        shown = moment + next(offset for first, end, offset in self.zone if first <= moment <= end)
+        shown = moment + [offset for first, _, offset in self.zone if first <= moment][-1]
         return shown if START <= shown <= END else None
 
     def first_open(self, moment):

@@ -12,7 +12,7 @@ from office.figures import Figures, outcome
 from office.known import Desk, Known
 from office.server import Programs, Server
 from office.settle import in_some_order, number_filed, wanted
-from office.ways import Browser, Messages, Shell, hidden_of
+from office.ways import SPENT, Browser, Messages, Shell, hidden_of
 
 SIDE_BY_SIDE = 24
 
@@ -105,9 +105,8 @@ class Trial:
     def one(self, ask):
         """One ask, its answer and the model's."""
         hidden = self.form_page(ask) if ask.way == "page" and not ask.reads else None
-        began = time.monotonic()
         answer = self.answer(ask, hidden)
-        seconds = time.monotonic() - began
+        seconds = SPENT.seconds
         told = self.told(ask)
         self.need(f"{ask}", answer, told)
         self.figures.answered(ask, outcome(answer), seconds)
@@ -130,9 +129,8 @@ class Trial:
 
     def page(self, ask, name, path, *words):
         """A page, compared; its reply."""
-        began = time.monotonic()
         given = self.browser.page(ask.by, name, path)
-        self.figures.timed("page (read)", ask.at, time.monotonic() - began)
+        self.figures.timed("page (read)", ask.at, SPENT.seconds)
         self.need(f"{path} for {ask.by} at {ask.at}", given, expected.by_page(self.desk, ask, name, *words))
         self.figures.compared["pages"] += 1
         return given
@@ -151,17 +149,17 @@ class Trial:
 
     # ---- many at once
 
-    def at_once(self, asks, side_by_side=None):
+    def at_once(self, asks):
         """The answers to asks that come at once. Everybody is signed in before."""
         for by in sorted({it.by for it in asks if it.way == "page"}):
             if by not in self.browser.cookies:
                 self.browser.sign_in(by)
-        began = time.monotonic()
+        return list(self.pool.map(self.timed, asks))
 
-        def timed(ask):
-            answer = self.answer(ask)
-            return answer, time.monotonic() - began
-        return list(self.pool.map(timed, asks))
+    def timed(self, ask):
+        """The answer to an ask, and how long it took."""
+        answer = self.answer(ask)
+        return answer, SPENT.seconds
 
     def do_together(self, at, asks):
         """Two press at once: the answers are those of one order or of the other."""
@@ -252,9 +250,8 @@ class Trial:
         ask = Ask(at, "page", self.admin(), "queues")
         self.one(ask)
         for _ in range(5):
-            began = time.monotonic()
             self.browser.get(ask.by, "/")
-            times.append(time.monotonic() - began)
+            times.append(SPENT.seconds)
         return statistics.median(times)
 
 

@@ -4,12 +4,16 @@ import contextlib
 import http.client
 import re
 import socket
+import threading
+import time
 import urllib.parse
 
 from office import reader
 from office.asks import PAGES, form, message, place, spelled
 
 SECONDS = 60
+# how long the last reply of a thread took, without the reading of a page by this program
+SPENT = threading.local()
 
 
 class Reply:
@@ -28,6 +32,7 @@ def asked(port, method, path, head, body=None):
     if body is not None:
         lines.append(f"Content-Length: {len(body)}")
     sent = "".join(f"{it}\r\n" for it in lines).encode() + b"\r\n" + (body or b"")
+    began = time.monotonic()
     try:
         with socket.create_connection(("127.0.0.1", port), timeout=SECONDS) as stream:
             stream.setsockopt(socket.IPPROTO_TCP, socket.TCP_NODELAY, 1)
@@ -38,6 +43,8 @@ def asked(port, method, path, head, body=None):
             return Reply(answer.status, answer.headers, answer.read())
     except (OSError, http.client.HTTPException):
         return None
+    finally:
+        SPENT.seconds = time.monotonic() - began
 
 
 class Messages:
@@ -61,7 +68,9 @@ class Shell:
 
     def answer(self, ask):
         words = ["--server", f"127.0.0.1:{self.port}", "--token-file", self.programs.path(f"{ask.by}.token")]
+        began = time.monotonic()
         text, status, told = self.programs.run("desk_ask", [*words, *spelled(ask)])
+        SPENT.seconds = time.monotonic() - began
         if status == 4 and told in ("no server\n", "no whole reply\n") or status == 4 and not text:
             return None
         return text, status
