@@ -109,17 +109,22 @@ def message(ask):
         return "GET", f"/{name}", None
     if name == "queue":
         keys = zip(("queue", "lifecycle", "level"), [*words, None])
-        return "POST", "/queues", json.dumps(dict(keys))
+        return "POST", "/queues", body(dict(keys))
     if name == "ls":
         return "GET", f"/queues/{words[0]}/requests", None
     if name == "create":
-        return "POST", f"/queues/{words[0]}/requests", json.dumps(
+        return "POST", f"/queues/{words[0]}/requests", body(
             {"subject": words[1], "status": words[2], "requestors": words[3]})
     if name in ("show", "history"):
         return "GET", f"/requests/{words[0]}" + ("/history" if name == "history" else ""), None
     act, keys = ACTS[name]
     values = dict(zip(keys, words[1:] + [None]))
-    return "POST", f"/requests/{words[0]}/{act}", json.dumps(values)
+    return "POST", f"/requests/{words[0]}/{act}", body(values)
+
+
+def body(values):
+    """As JSON in UTF-8: with escapes the longest text would be too long for a message."""
+    return json.dumps(values, ensure_ascii=False)
 
 
 # ---- forms

@@ -14,7 +14,8 @@ from office.server import Programs, Server
 from office.settle import in_some_order, number_filed, wanted
 from office.ways import SPENT, Browser, Messages, Shell, hidden_of
 
-SIDE_BY_SIDE = 24
+# how many clients a burst has at once
+SIDE_BY_SIDE = 500
 
 
 class Differs(Exception):
