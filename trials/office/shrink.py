@@ -1,11 +1,13 @@
 """Cuts steps that differ down to the fewest that still do, in the same way. What can be left out is tried in
 halves, then in quarters, and so on down to single steps. The first step, which has the settings, stays."""
+import re
 
 
 def label(step, what):
-    """What makes a difference the same: the kind of its step and of its ask, and how the telling begins."""
+    """What makes a difference the same: the kind of its step and of its ask, and how the telling begins, but
+    for numbers."""
     ask = step.get("ask", {})
-    return step["do"], ask.get("way"), ask.get("name"), what.split(" ")[0].split("(")[0]
+    return step["do"], ask.get("way"), ask.get("name"), re.sub("[0-9]+", "N", re.split("[ (]", what)[0])
 
 
 def fewest(steps, place, differs, told=print):
