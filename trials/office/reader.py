@@ -209,7 +209,7 @@ def owner_form(change):
 
 def named(change, list_name):
     found = next(it for it in change.all("datalist") if it.marks.get("id") == list_name)
-    return sorted(it.marks["value"] for it in found.all("option"))
+    return sorted({it.marks["value"] for it in found.all("option")})
 
 
 # ---- refusals
