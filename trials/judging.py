@@ -22,6 +22,8 @@ def admin():
         text = file.read()
     name = re.search(r'to = "person:(.*)"', text).group(1)
     return re.search(r'^(.*) = "%s"$' % name, text, re.M).group(1).encode()
+def seen_by(token, part):
+    return re.sub(rb"Desk-Token: [^\\r]*", b"Desk-Token: " + token, part)
 def twice(part):
     with other() as stream:
         stream.sendall(part)
