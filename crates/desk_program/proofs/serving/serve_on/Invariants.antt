@@ -4,7 +4,7 @@ use Rattle.service_core.specs.Leaves.{LeavesDesk}
 use Rattle.service_core.specs.Seen.{settings_of, tables_of}
 use Rattle.desk_program.specs.Listening.{accepted_of, has_accept_failed}
 use Rattle.desk_program.specs.Serving.{AnswersAll}
-use Rattle.desk_program.proofs.serving.serve_on_counted.Given as goal
+use Rattle.desk_program.proofs.serving.serve_on.Given as goal
 
 abbrev pub invariant-loop-connection : goal.invariant-loop-connection
 invariant-loop-connection g l =

@@ -5,7 +5,7 @@ use Rattle.service_core.specs.Seen.{settings_of, tables_of}
 use Rattle.desk_program.specs.Listening.{accepted_of, has_accept_failed, minute_of}
 use Rattle.desk_program.proofs.Connections.{all_and_one, all_but_one, all_ended, none_answered}
 use Rattle.desk_program.proofs.Connections.{with_failure, without_failure}
-use Rattle.desk_program.proofs.serving.serve_on_counted.Goals as goal
+use Rattle.desk_program.proofs.serving.serve_on.Goals as goal
 
 pub loop-connection-init : goal.loop-connection-init
 loop-connection-init g c =
