@@ -4,12 +4,6 @@ use Rattle.desk_program.specs.declared.fault.InputFault.{InputFault}
 use Rattle.desk_program.specs.declared.fault.InputFault.TheVariants.{TooLong, NoMarker, NotUtf8}
 use Rattle.desk_program.specs.declared.fault.InputFault.TheVariants.{Read}
 
-abbrev pub number_of : InputFault → ℕ
-number_of TooLong = 1
-number_of NoMarker = 2
-number_of NotUtf8 = 3
-number_of Read = 4
-
 abbrev pub name_of : InputFault → List ℕ
 name_of TooLong = codes "too long"
 name_of NoMarker = codes "no %% line"

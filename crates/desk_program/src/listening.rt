@@ -14,7 +14,8 @@ use std::io::{self, BufReader, Read, Write};
 use std::net::OpenListener;
 use std::time::Clock;
 use store_core::Backend;
-use wire_core::{Routes, ServeFault, serve_one_by};
+use stream_core::{CountedReader, CountedWriter};
+use wire_core::{Routes, ServeFault, serve_one_counted};
 
 /// A listener, how many connections it gave, how they ended, and whether it failed to give one.
 #[derive(Drop)]
@@ -180,7 +181,9 @@ fn serve_by<R: Read, W: Write, S: Backend>(
         (tables_of S.Store desk.old) (tables_of S.Store desk.new) }
     ensures left { LeavesDesk S.Store desk.old desk.new }
 {
-    serve_one_by(alloc, routes, reader, writer, moment, desk)
+    let mut reader = CountedReader::new(reader);
+    let mut output = CountedWriter::new(writer);
+    serve_one_counted(alloc, routes, &mut reader, &mut output, moment, desk)
 }
 
 /// The side of a stream that is read, or the one that is written: they take turns.
