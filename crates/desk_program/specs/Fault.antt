@@ -1,4 +1,4 @@
--- The numbers and names of the faults of an input.
+-- The words by which the faults of an input are told.
 use Rattle.std.specs.Prelude.{ℕ, List, codes}
 use Rattle.desk_program.specs.declared.fault.InputFault.{InputFault}
 use Rattle.desk_program.specs.declared.fault.InputFault.TheVariants.{TooLong, NoMarker, NotUtf8}
