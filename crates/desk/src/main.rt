@@ -13,6 +13,7 @@ use desk_program::{
 };
 use std::process::ExitCode;
 use std::{env, io};
+use stream_core::{CountedReader, CountedWriter};
 use tables::Job;
 
 /// `desk script`, or `desk` alone, runs the script that stands in the standard input, and ends with
@@ -23,9 +24,12 @@ fn main(rt: HostRuntime) -> ExitCode {
     let status = match words_of(&rt) {
         Ok(words) => run(&rt, words.as_slice()),
         Err(error) if error.kind() == io::ErrorKind::OutOfMemory => {
-            tell_input_fault(InputFault::Read, &mut io::writer(&rt))
+            tell_input_fault(
+                InputFault::Read,
+                &mut CountedWriter::new(&mut io::writer(&rt)),
+            )
         }
-        Err(_) => tell_bad_words(&mut io::writer(&rt)),
+        Err(_) => refuse(&rt),
     };
     ExitCode::from(status)
 }
@@ -41,11 +45,18 @@ fn words_of(rt: &HostRuntime) -> io::Result<Vec<String>> {
 
 fn run(rt: &HostRuntime, words: &[String]) -> u8 {
     if asks_for_script(words) {
-        let mut output = io::writer(rt);
-        run_script_counted(rt.alloc(), &mut rt.reader(), &mut output, Memory::Left).status
+        run_script(rt)
     } else {
         run_on_tables(rt, words)
     }
+}
+
+/// Runs the script that stands in the standard input.
+fn run_script(rt: &HostRuntime) -> u8 {
+    let (mut input, mut output) = (rt.reader(), io::writer(rt));
+    let mut reader = CountedReader::new(&mut input);
+    let mut writer = CountedWriter::new(&mut output);
+    run_script_counted(rt.alloc(), &mut reader, &mut writer, Memory::Left)
 }
 
 /// Runs what has a file of tables: a server or one command. No words are both.
@@ -55,8 +66,13 @@ fn run_on_tables(rt: &HostRuntime, words: &[String]) -> u8 {
     }
     match one_command_of(words) {
         Some(asked) => tables::run(rt, Job::Run(&asked)),
-        None => tell_bad_words(&mut io::writer(rt)),
+        None => refuse(rt),
     }
+}
+
+/// Prints that words aren't understood.
+fn refuse(rt: &HostRuntime) -> u8 {
+    tell_bad_words(&mut CountedWriter::new(&mut io::writer(rt)))
 }
 
 fn asks_for_script(words: &[String]) -> bool {

@@ -1,12 +1,13 @@
 //! A server over tables, on the loopback.
 ghost use Rattle.std.specs.Prelude.{◌≡◌, false};
 
-use desk_program::{CountedListener, Serving, Status, open_desk_whole, serve_on_counted};
+use desk_program::{CountedListener, Serving, Status, open_desk_whole, serve_on};
 use service_core::Desk;
 use sqlite::Connection;
 use std::io::Write;
 use std::net::TcpListener;
 use store_core::{Backend, Store};
+use stream_core::CountedWriter;
 
 /// Serves the desk over these tables, and gives them back.
 pub fn serve_over<S: Backend, W: Write>(
@@ -18,7 +19,8 @@ pub fn serve_over<S: Backend, W: Write>(
 ) -> (u8, Connection<S>)
     requires { tables.in_transaction ≡ false }
 {
-    match open_desk_whole(rt.alloc(), Store::adopt(tables), settings, output) {
+    let mut output = CountedWriter::new(output);
+    match open_desk_whole(rt.alloc(), Store::adopt(tables), settings, &mut output) {
         Ok(mut desk) => {
             let status = listen(rt, serving, &mut desk);
             let (store, _) = desk.detach();
@@ -38,7 +40,7 @@ fn listen<S: Backend>(rt: &HostRuntime, serving: &Serving<'_>, desk: &mut Desk<S
         return u8::from(Status::Failed);
     }
     let mut listener = CountedListener::new(&listener);
-    let status = serve_on_counted(rt.alloc(), &mut listener, serving.count, rt, desk);
+    let status = serve_on(rt.alloc(), &mut listener, serving.count, rt, desk);
     if listener.failed() {
         refuse_network(rt)
     } else {

@@ -1,10 +1,11 @@
 //! One command on tables.
 ghost use Rattle.std.specs.Prelude.{◌≡◌, false};
 
-use desk_program::{OneCommand, OneEnded, run_one_whole};
+use desk_program::{OneCommand, run_one};
 use sqlite::Connection;
 use std::io::Write;
 use store_core::{Backend, Store};
+use stream_core::CountedWriter;
 
 /// Runs the command over these tables, and gives them back.
 pub fn run_over<S: Backend, W: Write>(
@@ -16,14 +17,15 @@ pub fn run_over<S: Backend, W: Write>(
 ) -> (u8, Connection<S>)
     requires { tables.in_transaction ≡ false }
 {
-    let OneEnded { status, store, .. } = run_one_whole(
+    let mut output = CountedWriter::new(output);
+    let (status, store) = run_one(
         rt.alloc(),
         settings,
         Store::adopt(tables),
         asked.caller,
         asked.at,
         asked.words,
-        output,
+        &mut output,
     );
     (status, store.release())
 }

@@ -8,6 +8,7 @@ use desk_program::{OneCommand, Serving, tell_input_fault, tell_store_fault};
 use sqlite::Connection;
 use std::io::{self, Write};
 use store_core::{Backend, StoreFault};
+use stream_core::CountedWriter;
 
 /// What the program's words ask for on a file of tables.
 #[derive(Clone, Copy)]
@@ -54,7 +55,7 @@ impl<'j> Job<'j> {
 pub fn run(rt: &HostRuntime, job: Job<'_>) -> u8 {
     match read_settings(rt, job.settings()) {
         Ok(settings) => run_on_file(rt, job, settings.as_slice()),
-        Err(fault) => tell_input_fault(fault, &mut io::writer(rt)),
+        Err(fault) => tell_input_fault(fault, &mut CountedWriter::new(&mut io::writer(rt))),
     }
 }
 
@@ -63,7 +64,7 @@ pub fn run(rt: &HostRuntime, job: Job<'_>) -> u8 {
 fn run_on_file(rt: &HostRuntime, job: Job<'_>, settings: &[u8]) -> u8 {
     let mut output = io::writer(rt);
     let Ok(tables) = Connection::open(rt, job.tables()) else {
-        return tell_store_fault(StoreFault::Refused, &mut output);
+        return tell_store_fault(StoreFault::Refused, &mut CountedWriter::new(&mut output));
     };
     let (status, tables) = job.over(rt, settings, tables, &mut output);
     let _closed = tables.close();

@@ -25,7 +25,6 @@ pub mod KnownLaw
 pub mod Lawful
 pub mod Linked
 pub mod Moved
-pub mod NamedRights
 pub mod NamesLaw
 pub mod Opening
 pub mod Orders

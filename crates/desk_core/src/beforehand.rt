@@ -7,7 +7,6 @@ ghost use Rattle.desk_model.specs.Condition.{first_holding};
 ghost use Rattle.desk_model.specs.Desk.{Desk};
 ghost use Rattle.desk_model.specs.Known as known;
 ghost use Rattle.desk_model.specs.Plan.{conditions_of_words};
-ghost use Rattle.desk_model.specs.Refusals.{names_its_right};
 ghost use Rattle.desk_model.specs.Step.{call, guard, refusal_beforehand};
 
 use desk_model::{Command, Refusal};
@@ -27,7 +26,6 @@ pub fn refused_beforehand(
     ensures first { result ≡ refusal_beforehand settings.now at caller.now command.now }
     ensures always { IfSome result (λ refusal. (desk : Desk)
         → guard settings.now at caller.now command.now desk ≡ Some refusal) }
-    ensures named { IfSome result (λ refusal. names_its_right refusal ≡ true) }
 {
     if !settings.people().knows(caller) {
         return Some(Refusal::UnknownCaller);
@@ -42,7 +40,6 @@ pub fn refused_beforehand(
 fn refused_words(settings: &Settings, command: &Command) -> Option<Refusal>
     ensures first { (at : ℕ) (caller : List ℕ) → result
         ≡ first_holding (conditions_of_words (call settings.now at caller) (plan_of command.now)) }
-    ensures named { IfSome result (λ refusal. names_its_right refusal ≡ true) }
 {
     match command {
         Command::OpenQueue {
@@ -66,7 +63,6 @@ fn refused_queue(
 ) -> Option<Refusal>
     ensures first { (at : ℕ) (caller : List ℕ) → result ≡ first_holding (open_queue.beforehand
         name.now lifecycle.now level.now (call settings.now at caller)) }
-    ensures named { IfSome result (λ refusal. names_its_right refusal ≡ true) }
 {
     if !is_name(name.as_str()) {
         Some(Refusal::BadText)
@@ -80,7 +76,6 @@ fn refused_queue(
 /// The refusal of a text that isn't of its form.
 fn refused_text(is_formed: bool) -> Option<Refusal>
     ensures first { result ≡ (if is_formed then None else Some Refusal.BadText) }
-    ensures named { IfSome result (λ refusal. names_its_right refusal ≡ true) }
 {
     if is_formed {
         None

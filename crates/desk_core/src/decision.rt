@@ -3,12 +3,12 @@
 ghost use Rattle.std.specs.Prelude.{◌||◌, ◌≡◌, ◌≢◌, ◌+◌, ◌^◌, ◌<◌, true, false};
 ghost use Rattle.std.specs.Prelude.{IfOk, IfErr, OnOk, None, Some, [], ◌∷◌};
 ghost use Rattle.rights_core.specs.Right.{own_ticket};
+ghost use Rattle.text_core.specs.Form.{is_right_name};
 ghost use Rattle.desk_model.specs.Change.{no_change};
-ghost use Rattle.desk_model.specs.Commands.{plan_of, IsMove, IsReading};
+ghost use Rattle.desk_model.specs.Commands.{plan_of, IsReading};
 ghost use Rattle.desk_model.specs.Condition.{Decides};
 ghost use Rattle.desk_model.specs.Entries as entries;
 ghost use Rattle.desk_model.specs.Plan.{change_by, conditions_by, is_missing, is_unseen};
-ghost use Rattle.desk_model.specs.Refusals.{names_its_right};
 ghost use Rattle.desk_model.specs.Rights as rights;
 ghost use Rattle.desk_model.specs.Step.{refusal_beforehand};
 ghost use Rattle.desk_core.specs.Context.{call_of};
@@ -22,7 +22,7 @@ use hours_core::Minute;
 use rights_core::{Roles, right};
 use settings_core::Settings;
 use std::alloc::{AllocError, Global};
-use text_core::{Sequence, Text};
+use text_core::{RightName, Sequence, Text};
 
 mod comment;
 mod create;
@@ -57,7 +57,6 @@ pub fn decide(
     ensures refuses { Refuses settings.now at caller.now facts.now command.now result }
     ensures planned { FollowsPlan settings.now at caller.now facts.now command.now result }
     ensures reads { IsReading command.now → IfOk result (λ change. change ≡ no_change) }
-    ensures named { IfErr result (λ refusal. names_its_right refusal ≡ true) }
 {
     match refused_beforehand(settings, at, caller, command) {
         Some(refusal) => Err(refusal),
@@ -80,7 +79,6 @@ pub fn decide_on_facts(
     ensures refuses { Refuses settings.now at caller.now facts.now command.now result }
     ensures planned { FollowsPlan settings.now at caller.now facts.now command.now result }
     ensures reads { IsReading command.now → IfOk result (λ change. change ≡ no_change) }
-    ensures named { IfErr result (λ refusal. names_its_right refusal ≡ true) }
 {
     let call = Call {
         settings,
@@ -101,7 +99,6 @@ fn follow_plan(
         command.now ≡ None }
     ensures planned { FollowsPlan call.entry.settings.now call.entry.at call.entry.caller.now
         facts.now command.now result }
-    ensures named { IfErr result (λ refusal. names_its_right refusal ≡ true) }
 {
     let Some(moment) = moment_of(call.at) else {
         unreachable!()
@@ -133,7 +130,6 @@ impl<'c> Context<'c> {
         ensures decides { Decides result
             (conditions_by (call_of self.now) self.now.facts.now (plan_of command.now))
             (change_of (call_of self.now) self.now.facts.now command.now) }
-        ensures named { IfErr result (λ refusal. names_its_right refusal ≡ true) }
     {
         match self.decide(command) {
             Ok(change) => Ok(change.dated(self.alloc, self.settings, self.facts)?),
@@ -146,8 +142,6 @@ impl<'c> Context<'c> {
         ensures decides { Decides result
             (conditions_by (call_of self.now) self.now.facts.now (plan_of command.now))
             (change_by (call_of self.now) self.now.facts.now (plan_of command.now)) }
-        ensures moves { IsMove command.now
-            → IfErr result (λ refusal. names_its_right refusal ≡ true) }
     {
         match command {
             Command::OpenQueue {
@@ -263,6 +257,7 @@ impl<'c> Context<'c> {
 
     /// Refuses where the caller lacks a right on the request.
     fn ask(&self, right: &str, request: &SeenRequest) -> Result<(), Refusal>
+        requires { is_right_name right.now ≡ true }
         ensures ok { OnOk result (rights.holds_on
             self.now.settings.now self.now.caller.now right.now request.now ≡ true) }
         ensures err { IfErr result (λ refusal. refusal ≢ Refusal.Unavailable
@@ -295,6 +290,7 @@ impl<'c> Context<'c> {
     /// Refuses where the caller lacks a right on the queue of that name: nobody has a role on a
     /// queue.
     fn ask_on_queue(&self, right: &str, queue: &Text) -> Result<(), Refusal>
+        requires { is_right_name right.now ≡ true }
         ensures ok { OnOk result (rights.holds_on_queue
             self.now.settings.now self.now.caller.now right.now queue.now ≡ true) }
         ensures err { IfErr result (λ refusal. refusal ≢ Refusal.Unavailable
@@ -311,9 +307,10 @@ impl<'c> Context<'c> {
 
     /// That a right is lacking, or that there is no memory to say so.
     fn denied(&self, right: &str) -> Refusal
+        requires { is_right_name right.now ≡ true }
         ensures { result ≢ Refusal.Unavailable → result ≡ Refusal.Denied right.now }
     {
-        match Text::new(self.alloc, right) {
+        match RightName::new(self.alloc, right) {
             Ok(right) => Refusal::Denied(right),
             Err(_) => Refusal::Unavailable,
         }

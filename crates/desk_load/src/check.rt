@@ -11,6 +11,7 @@ use std::alloc::AllocError;
 use std::fs::File;
 use std::io::{self, ErrorKind, Read};
 use store_core::{Store, StoreFault};
+use stream_core::CountedWriter;
 
 /// The exit status where nothing is wrong.
 const DONE: u8 = 0;
@@ -37,7 +38,7 @@ pub fn run(rt: &HostRuntime, asked: &Asked<'_>) -> u8 {
             Ok(Some(wrong)) => print(rt, wrong.status, wrong.told.as_str()),
             Err(_) => print(rt, BAD_TABLES, "out of memory"),
         },
-        Err(fault) => tell_input_fault(fault, &mut io::writer(rt)),
+        Err(fault) => tell_input_fault(fault, &mut CountedWriter::new(&mut io::writer(rt))),
     }
 }
 

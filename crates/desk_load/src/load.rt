@@ -1,5 +1,6 @@
 //! A load over tables.
 ghost use Rattle.std.specs.Prelude.{◌≡◌, false, None};
+ghost use Rattle.stream_core.specs.Seen.{HaveOneWriter, has_write_failed};
 ghost use Rattle.desk_program.specs.Opening.{IsNotOpened};
 ghost use Rattle.desk_load.specs.Ending.{EndsLoad};
 
@@ -28,11 +29,13 @@ pub fn load_over<S: Backend + Drop, W: Write>(
     plan: Plan,
     settings: &[u8],
     tables: Connection<S>,
-    output: &mut W,
+    output: &mut CountedWriter<'_, W>,
 ) -> (u8, Option<Connection<S>>)
-    requires { tables.in_transaction ≡ false }
-    ensures { result.1 ≡ None → IsNotOpened S.Store settings.now tables
-        (W.contents output.old) (W.contents output.new) result.0 }
+    requires closed { tables.in_transaction ≡ false }
+    requires unfailed { has_write_failed output.old ≡ false }
+    ensures same_writer { HaveOneWriter output.new output.old }
+    ensures told { result.1 ≡ None → IsNotOpened S.Store W.contents settings.now tables
+        output.old output.new result.0 }
 {
     match open_desk(rt.alloc(), Store::adopt(tables), settings, output) {
         Ok(mut desk) => {
@@ -49,8 +52,11 @@ fn load_lines<S: Backend, W: Write>(
     rt: &HostRuntime,
     plan: Plan,
     desk: &mut Desk<S>,
-    output: &mut W,
-) -> u8 {
+    output: &mut CountedWriter<'_, W>,
+) -> u8
+    requires { has_write_failed output.old ≡ false }
+    ensures { HaveOneWriter output.new output.old }
+{
     match BufReader::new(rt.alloc(), rt.reader()) {
         Ok(mut input) => {
             let loaded = load_from(rt, plan, desk, &mut input, output);
@@ -66,19 +72,22 @@ fn load_from<S: Backend, R: Read, W: Write>(
     plan: Plan,
     desk: &mut Desk<S>,
     input: &mut R,
-    output: &mut W,
-) -> Loaded {
-    let mut output = CountedWriter::new(output);
+    output: &mut CountedWriter<'_, W>,
+) -> Loaded
+    requires { has_write_failed output.old ≡ false }
+    ensures { HaveOneWriter output.new output.old }
+{
     let mut told = Told::new(rt, plan.passed);
-    let loaded = load(rt.alloc(), desk, plan, input, &mut output, &mut told);
+    let loaded = load(rt.alloc(), desk, plan, input, output, &mut told);
     told.tell();
     loaded
 }
 
 /// The exit status of a load. A failed read is told.
-fn status_of<W: Write>(loaded: &Loaded, output: &mut W) -> u8
-    ensures { EndsLoad loaded.now.ending loaded.now.refused
-        (W.contents output.old) (W.contents output.new) result }
+fn status_of<W: Write>(loaded: &Loaded, output: &mut CountedWriter<'_, W>) -> u8
+    ensures same_writer { HaveOneWriter output.new output.old }
+    ensures told { EndsLoad W.contents loaded.now.ending loaded.now.refused output.old output.new
+        result }
 {
     match loaded.ending {
         Ending::Input | Ending::Refused => { if loaded.refused { REFUSED } else { DONE } }

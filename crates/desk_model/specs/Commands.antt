@@ -1,6 +1,6 @@
 -- The commands: the plan of each, which requests it names, and whether it only reads or moves a
 -- request.
-use Rattle.std.specs.Prelude.{◌≡◌, ℕ, ⊤, true, false, not, List}
+use Rattle.std.specs.Prelude.{◌≡◌, ℕ, true, false, not, List}
 use Rattle.text_core.specs.Form.{is_text}
 use Rattle.desk_model.specs.Commands.Comment as comment
 use Rattle.desk_model.specs.Commands.Create as create
@@ -83,8 +83,3 @@ requests_named command = named_by (plan_of command)
 -- the command only reads
 abbrev pub IsReading : Command → Type 0
 IsReading command = is_reading (plan_of command) ≡ true
-
--- the command asks for the right of a move of its lifecycle
-abbrev pub IsMove : Command → Type 0
-IsMove (command.SetStatus id status) = ⊤
-IsMove other = ⊥

@@ -1,6 +1,5 @@
--- The number and the name of each refusal, and whether what one names as a right is a right's name.
-use Rattle.std.specs.Prelude.{ℕ, Bool, true, List, codes}
-use Rattle.text_core.specs.Form.{is_right_name}
+-- The number and the name of each refusal.
+use Rattle.std.specs.Prelude.{ℕ, List, codes}
 use Rattle.desk_model.specs.declared.refusal.Refusal.{Refusal}
 use Rattle.desk_model.specs.declared.refusal.Refusal.TheVariants.{UnknownCaller, BadMoment}
 use Rattle.desk_model.specs.declared.refusal.Refusal.TheVariants.{BadText, NotFound, UnknownName}
@@ -45,8 +44,3 @@ name_of Exists = codes "Exists"
 name_of SelfLink = codes "SelfLink"
 name_of Full = codes "Full"
 name_of Unavailable = codes "Unavailable"
-
--- the right that the refusal names, if it names one, is a right's name
-abbrev pub names_its_right : Refusal → Bool
-names_its_right (Denied right) = is_right_name right
-names_its_right other = true

@@ -5,7 +5,7 @@ ghost use Rattle.desk_model.specs.Refusals.{number_of, name_of};
 ghost use Rattle.desk_model.specs.declared.refusal.Refusal.TheVariants.{Unavailable};
 
 use std::alloc::{AllocError, AllocFailed};
-use text_core::Text;
+use text_core::RightName;
 use thiserror::Error;
 
 /// Why a command is refused. The desk is then as it was.
@@ -28,7 +28,7 @@ pub enum Refusal {
     UnknownName,
     /// This right is lacking: to the caller, or to the person whom `Give` names.
     #[error("the right {right} is lacking", right = .0.as_str())]
-    Denied(Text),
+    Denied(RightName),
     /// The desk is already so.
     #[error("the desk is so already")]
     NoChange,

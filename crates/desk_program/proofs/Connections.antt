@@ -112,12 +112,13 @@ all_ended s listener old new all =
 
 -- ---- the status
 
-pub with_failure : (failed : Bool) (count accepted status : ℕ) → failed ≡ true
-    → accepted < count → status ≡ 4 → IsStatus failed count accepted status
-with_failure true count accepted status is few told = (few, told)
-with_failure false count accepted status is few told = absurd cc
+pub with_failure : (failed : Bool) (count asked accepted status : ℕ) → failed ≡ true
+    → accepted < count → asked ≡ accepted + 1 → status ≡ 4
+    → IsStatus failed count asked accepted status
+with_failure true count asked accepted status is few last told = (few, last, told)
+with_failure false count asked accepted status is few last told = absurd cc
 
-pub without_failure : (failed : Bool) (count accepted status : ℕ) → failed ≡ false
-    → accepted ≡ count → status ≡ 0 → IsStatus failed count accepted status
-without_failure false count accepted status is all told = (all, told)
-without_failure true count accepted status is all told = absurd cc
+pub without_failure : (failed : Bool) (count asked accepted status : ℕ) → failed ≡ false
+    → accepted ≡ count → asked ≡ count → status ≡ 0 → IsStatus failed count asked accepted status
+without_failure false count asked accepted status is all each told = (all, each, told)
+without_failure true count asked accepted status is all each told = absurd cc

@@ -1,14 +1,8 @@
--- The numbers and names of the faults of an input.
+-- The words by which the faults of an input are told.
 use Rattle.std.specs.Prelude.{ℕ, List, codes}
 use Rattle.desk_program.specs.declared.fault.InputFault.{InputFault}
 use Rattle.desk_program.specs.declared.fault.InputFault.TheVariants.{TooLong, NoMarker, NotUtf8}
 use Rattle.desk_program.specs.declared.fault.InputFault.TheVariants.{Read}
-
-abbrev pub number_of : InputFault → ℕ
-number_of TooLong = 1
-number_of NoMarker = 2
-number_of NotUtf8 = 3
-number_of Read = 4
 
 abbrev pub name_of : InputFault → List ℕ
 name_of TooLong = codes "too long"

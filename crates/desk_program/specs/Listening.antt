@@ -9,6 +9,10 @@ use Rattle.wire_core.specs.declared.fault.ServeFault.TheVariants.{Read, Write, N
 use Rattle.desk_program.specs.declared.listening.Connection.{Connection}
 use Rattle.desk_program.specs.declared.listening.CountedListener.{CountedListener}
 
+-- how often it was asked for a connection
+abbrev pub asked_of : {L : Type 0} → CountedListener L → ℕ
+asked_of listener = listener.asked
+
 -- how many connections were accepted
 abbrev pub accepted_of : {L : Type 0} → CountedListener L → ℕ
 accepted_of listener = listener.accepted
@@ -37,6 +41,7 @@ count_of false = 0
 
 -- it wasn't called so far
 pub record IsUncalled {L : Type 0} (listener : CountedListener L) : Type 0 where
+  pub asked : asked_of listener ≡ 0
   pub accepted : accepted_of listener ≡ 0
   pub answered : answered_of listener ≡ 0
   pub unread : unread_of listener ≡ 0
@@ -45,6 +50,7 @@ pub record IsUncalled {L : Type 0} (listener : CountedListener L) : Type 0 where
 -- a connection more that was accepted, or that couldn't be
 pub record Accepts {L A : Type 0} (old new : CountedListener L) (connection : Option A) : Type 0
   where
+    pub asked : asked_of new ≡ asked_of old + 1
     pub accepted : accepted_of new ≡ accepted_of old + count_of (is_some connection)
     pub failed : has_accept_failed new ≡ (is_none connection || has_accept_failed old)
     pub answered : answered_of new ≡ answered_of old
@@ -60,6 +66,7 @@ is_answered (Err Read) = false
 -- a connection more that was answered, or in which a read failed
 pub record Serves {L : Type 0} (old new : CountedListener L) (ended : Result ⊤ ServeFault) : Type 0
   where
+    pub asked : asked_of new ≡ asked_of old
     pub accepted : accepted_of new ≡ accepted_of old
     pub failed : has_accept_failed new ≡ has_accept_failed old
     pub answered : answered_of new ≡ answered_of old + count_of (is_answered ended)

@@ -19,7 +19,9 @@ use Rattle.service_core.specs.Streaming.{IsBeginningOf, is_list}
 use Rattle.service_core.specs.TableSteps.{ask_by}
 use Rattle.store_core.specs.Due.{StandsDue}
 use Rattle.store_tables.specs.Making.{IsBlank}
-use Rattle.stream_core.specs.Written.{IsWritten}
+use Rattle.stream_core.specs.Seen.{has_write_failed}
+use Rattle.stream_core.specs.Written.{Prints}
+use Rattle.stream_core.specs.declared.writer.CountedWriter.{CountedWriter}
 use Rattle.desk_program.specs.FaultLines.{unavailable_text}
 use Rattle.desk_program.specs.Input.{GivesSettings}
 use Rattle.desk_program.specs.Opening.{IsOpeningFault, StoodFor}
@@ -110,16 +112,16 @@ IsOneOutput g asked failed old new line status =
     ⊎ IsCommandOutput g asked.settings asked.at asked.caller (command_of asked.words) failed old new
     line status
 
--- One command was run on the tables of a connection, and its text was written.
-pub record RunsOne {S : Type 0} (g : Ghosts S) (asked : Asked) (old new : Held S)
-    (before after : Option (List ℕ)) (ended : ℕ) (failed : Bool) : Type 0 where
+-- One command was run on the tables of a connection, and its text was printed.
+pub record RunsOne {S W : Type 0} (g : Ghosts S) (contents : W → Option (List ℕ)) (asked : Asked)
+    (old new : Held S) (before after : CountedWriter W) (ended : ℕ) : Type 0 where
   -- the text of the answer, of the refusal or of the fault, or of a list that was cut short
   pub text : List ℕ
   -- the status that goes with it
   pub status : ℕ
   -- they are those of what is asked, and so are the tables afterwards
-  pub output : IsOneOutput g asked failed old new text status
-  -- the text was written whole, or where a write failed a part from its front
-  pub written : IsWritten failed before after text
+  pub output : IsOneOutput g asked (has_write_failed after) old new text status
+  -- the text was printed, whole or where a write failed a part from its front
+  pub printed : Prints contents before after text
   -- it ends with that status, or with 4 after a failed write
-  pub told : ended ≡ (if failed then 4 else status)
+  pub told : ended ≡ (if has_write_failed after then 4 else status)

@@ -21,7 +21,9 @@ use Rattle.store_tables.specs.Making.{IsBlank, IsKnown}
 use Rattle.store_tables.specs.Stands.{FirstStandsFor, Stand, StandsFor}
 use Rattle.store_tables.specs.declared.fault.StoreFault.{StoreFault}
 use Rattle.store_tables.specs.declared.fault.StoreFault.TheVariants.{Refused, WrongVersion}
-use Rattle.stream_core.specs.Written.{IsWritten}
+use Rattle.stream_core.specs.Seen.{has_write_failed}
+use Rattle.stream_core.specs.Written.{Prints}
+use Rattle.stream_core.specs.declared.writer.CountedWriter.{CountedWriter}
 use Rattle.desk_program.specs.FaultLines.{attach_fault_text, settings_fault_text, store_fault_text}
 use Rattle.desk_program.specs.Input.{GivesSettings}
 
@@ -141,21 +143,22 @@ IsOpeningFault g (Ok settings) old new line status =
     ⊎ ((fault : AttachFault) × (line ≡ attach_fault_text fault)
     × IsNotAttached settings (state g old) (state g new) fault)) × (status ≡ 4)
 
--- a line was printed, whole or up to a write that failed; then the status is 4
-abbrev pub EndsWith : List ℕ → ℕ → Option (List ℕ) → Option (List ℕ) → ℕ → Type 0
-EndsWith line status old new ended =
-    (failed : Bool) × IsWritten failed old new line × (ended ≡ (if failed then 4 else status))
+-- a line was printed, and it ends with this status, or with 4 after a write that failed
+abbrev pub EndsWith : {W : Type 0} → (W → Option (List ℕ)) → List ℕ → ℕ → CountedWriter W
+    → CountedWriter W → ℕ → Type 0
+EndsWith contents line status old new ended =
+    Prints contents old new line × (ended ≡ (if has_write_failed new then 4 else status))
 
 -- the fault of opening tables, of which these are given back
-abbrev pub IsGivenBack : {S : Type 0} → Ghosts S → List ℕ → Held S → Held S → Option (List ℕ)
-    → Option (List ℕ) → ℕ → Type 0
-IsGivenBack g text tables left old new ended =
+abbrev pub IsGivenBack : {S W : Type 0} → Ghosts S → (W → Option (List ℕ)) → List ℕ → Held S
+    → Held S → CountedWriter W → CountedWriter W → ℕ → Type 0
+IsGivenBack g contents text tables left old new ended =
     (given : Result Settings SettingsFault) × (line : List ℕ) × (status : ℕ)
     × GivesSettings text given × IsOpeningFault g given tables left line status
-    × EndsWith line status old new ended
+    × EndsWith contents line status old new ended
 
 -- the same, whatever is left of them
-abbrev pub IsNotOpened : {S : Type 0} → Ghosts S → List ℕ → Held S → Option (List ℕ)
-    → Option (List ℕ) → ℕ → Type 0
-IsNotOpened {S} g text tables old new ended =
-    (left : Held S) × IsGivenBack g text tables left old new ended
+abbrev pub IsNotOpened : {S W : Type 0} → Ghosts S → (W → Option (List ℕ)) → List ℕ → Held S
+    → CountedWriter W → CountedWriter W → ℕ → Type 0
+IsNotOpened {S} g contents text tables old new ended =
+    (left : Held S) × IsGivenBack g contents text tables left old new ended

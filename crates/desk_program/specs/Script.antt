@@ -21,12 +21,14 @@ use Rattle.desk_words.specs.Words.{words_of}
 use Rattle.desk_program.specs.FaultLines.{attach_fault_text, input_fault_text}
 use Rattle.desk_program.specs.FaultLines.{settings_fault_text, store_fault_text, unavailable_text}
 use Rattle.desk_program.specs.Input.{GivesSettings, IsScript, Script}
-use Rattle.stream_core.specs.Written.{IsWritten}
+use Rattle.stream_core.specs.Seen.{has_write_failed, left_in}
+use Rattle.stream_core.specs.Written.{IsWritten, Prints}
+use Rattle.stream_core.specs.declared.reader.CountedReader.{CountedReader}
+use Rattle.stream_core.specs.declared.writer.CountedWriter.{CountedWriter}
 use Rattle.desk_program.specs.declared.fault.InputFault.{InputFault}
 use Rattle.desk_program.specs.declared.fault.InputFault.TheVariants.{Read}
 use Rattle.desk_program.specs.declared.line.Line.{Line}
 use Rattle.desk_program.specs.declared.line.Line.TheVariants.{PassedOver, BadWords, Asked}
-use Rattle.desk_program.specs.declared.script.Ended.{Ended}
 
 -- ---- a line
 
@@ -151,15 +153,27 @@ IsOutput input text status =
     ⊎ ((script : Result Script InputFault) × IsScript input script
     × IsScriptOutput script text status)
 
--- A script was run: its output was written, whole or up to a write that failed, and the status is
--- that of the output, or 4 after a failed write. The input is all that its reader had, where that
--- is known.
-pub record RunsScript (known old new : Option (List ℕ)) (ended : Ended) : Type 0 where
+-- A script was run: its output was printed, and the status is that of the output, or 4 after a
+-- failed write. The input is all that its reader had, where that is known.
+pub record RunsScript {R W : Type 0} (remaining : R → Option (List ℕ))
+    (contents : W → Option (List ℕ)) (reader : CountedReader R) (old new : CountedWriter W)
+    (ended : ℕ) : Type 0 where
   pub input : List ℕ
   pub text : List ℕ
   pub status : ℕ
+  pub whole : IfSome (left_in remaining reader) (λ all. all ≡ input)
+  pub output : IsOutput input text status
+  pub printed : Prints contents old new text
+  pub told : ended ≡ (if has_write_failed new then 4 else status)
+
+-- The same of a reader and a writer that don't count: the output was written, whole or up to a write
+-- that failed.
+pub record WritesScript (known old new : Option (List ℕ)) (ended : ℕ) : Type 0 where
+  pub input : List ℕ
+  pub text : List ℕ
+  pub status : ℕ
+  pub failed : Bool
   pub whole : IfSome known (λ all. all ≡ input)
   pub output : IsOutput input text status
-  pub written : IsWritten ended.failed old new text
-  pub told : ended.status ≡ (if ended.failed then 4 else status)
-  pub writes : ended.writes ≤ length text
+  pub written : IsWritten failed old new text
+  pub told : ended ≡ (if failed then 4 else status)

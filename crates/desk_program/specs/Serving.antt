@@ -6,7 +6,8 @@ use Rattle.settings_core.specs.declared.settings.Settings.{Settings}
 use Rattle.desk_model.specs.Desk.{Desk}
 use Rattle.service_core.specs.TableSteps.{LeadsOn}
 use Rattle.wire_core.specs.Steps.{StreamSteps}
-use Rattle.desk_program.specs.Listening.{accepted_of, answered_of, count_of, has_accept_failed}
+use Rattle.desk_program.specs.Listening.{accepted_of, answered_of, asked_of, count_of}
+use Rattle.desk_program.specs.Listening.{has_accept_failed}
 use Rattle.desk_program.specs.Listening.{unread_of}
 use Rattle.desk_program.specs.declared.listening.CountedListener.{CountedListener}
 
@@ -44,13 +45,17 @@ pub record AnswersAll {L : Type 0} (settings : Settings) (listener : CountedList
   pub led : LeadsOn settings (λ desk after. AnswersConnections settings connections desk after) old
       new
 
--- all connections were accepted, with status 0; or one of them couldn't be, with status 4
-abbrev pub IsStatus : Bool → ℕ → ℕ → ℕ → Type 0
-IsStatus false count accepted status = (accepted ≡ count) × (status ≡ 0)
-IsStatus true count accepted status = (accepted < count) × (status ≡ 4)
+-- all connections were accepted, with status 0; or one of them couldn't be, with status 4, and no
+-- other was asked for after it
+abbrev pub IsStatus : Bool → ℕ → ℕ → ℕ → ℕ → Type 0
+IsStatus false count asked accepted status =
+    (accepted ≡ count) × (asked ≡ count) × (status ≡ 0)
+IsStatus true count asked accepted status =
+    (accepted < count) × (asked ≡ accepted + 1) × (status ≡ 4)
 
 -- a server has ended that was to answer so many connections
 pub record IsEnded {L : Type 0} (settings : Settings) (count status : ℕ)
     (listener : CountedListener L) (old new : State) : Type 0 where
-  pub told : IsStatus (has_accept_failed listener) count (accepted_of listener) status
+  pub told : IsStatus (has_accept_failed listener) count (asked_of listener) (accepted_of listener)
+      status
   pub all : AnswersAll settings listener old new

@@ -3,6 +3,7 @@
 ghost use Rattle.std.specs.Prelude.{◌≡◌, ◌≢◌, ◌≤◌, ◌<◌, ◌+◌, ◌-◌, List, ℕ};
 ghost use Rattle.std.specs.Prelude.{Ok, Err, None, length, IfOk, IfErr, IfSome, if◌then◌else◌};
 ghost use Rattle.std.specs.Option.{option_map};
+ghost use Rattle.stream_core.specs.Calls.{counted};
 ghost use Rattle.stream_core.specs.Seen.{HaveOneReader, left_in, reads_of};
 ghost use Rattle.stream_core.specs.Streams.{ConsumesAtMost};
 ghost use Rattle.wire_core.specs.Counted.{LeavesReader};
@@ -42,6 +43,7 @@ pub(crate) fn take_input<R: Read>(
         → form.IsLong (left_in R.remaining reader.old) }
     ensures kinds { IfErr result (λ fault. fault ≢ InputFault.TooLong → fault ≡ InputFault.Read) }
     ensures left { LeavesReader R.remaining (form.input_limit + 1) reader.old reader.new }
+    ensures asked { counted (reads_of reader.old) ≤ reads_of reader.new }
 {
     let mut taken = Vec::new(alloc);
     for turn in 0..MAX_READS {
@@ -69,7 +71,7 @@ fn take_some<R: Read>(
         taken.old.items taken.new.items result }
     ensures taken { ConsumesAtMost (left_in R.remaining reader.old)
         (left_in R.remaining reader.new) (form.input_limit + 1 - length taken.old.items) }
-    ensures reads { reads_of reader.new ≤ reads_of reader.old + 1 }
+    ensures reads { reads_of reader.new ≡ counted (reads_of reader.old) }
 {
     let mut chunk = [0u8; CHUNK];
     let room = CHUNK.min(MAX_INPUT + 1 - taken.len());

@@ -1,13 +1,17 @@
 //! The desk's program: a script over a desk in memory, and one command and a server over a desk
 //! that is opened.
 //!
+//! Each call reads and writes by a reader and a writer that count, so that what a contract says of
+//! reads, writes and failures is said of the streams. `run_script` alone, which is given streams that
+//! don't, is `run_script_counted` with new counters.
+//!
 //! `run_script_counted` writes a run of the commands from the empty desk, by the settings before the
 //! first line `%%`; or else the least fault of the settings, or that of the input, or that there was
 //! no memory for a desk; or `input: read` in place of all.
 //!
 //! `answer_line` answers one line of a script, over the tables of any desk.
 //!
-//! `run_one_whole` runs one command on the tables of a store, and gives the store back. The first row
+//! `run_one` runs one command on the tables of a store, and gives the store back. The first row
 //! that holds says what is printed. `refused 16 Unavailable` may stand in place of all, with the
 //! tables as they were.
 //!
@@ -27,8 +31,8 @@
 //! always gave up would meet its contract, since any call may be out of memory. `open_desk_whole`
 //! gives the store back then.
 //!
-//! `serve_on` answers connections one after the other. It is `serve_on_counted`, whose listener
-//! counts: as many connections were accepted as the desk was led by, each a message step or, where a
+//! `serve_on` answers connections one after the other, by a listener that counts: as many
+//! connections were accepted as the desk was led by, each a message step or, where a
 //! read failed, no step; and the status is 0 exactly where all were accepted. That each is answered
 //! at the minute that the clock gave after its accept is seen by reading `listening.rt`, which alone
 //! accepts, and by cases.
@@ -50,11 +54,11 @@ mod status;
 pub use fault::InputFault;
 pub use line::{Line, answer_line};
 pub use listening::{Connection, CountedListener};
-pub use one::{OneEnded, run_one, run_one_whole};
+pub use one::run_one;
 pub use opening::{
     open_desk, open_desk_whole, take_settings, tell_bad_words, tell_input_fault, tell_store_fault,
 };
 pub use options::{OneCommand, Serving, one_command_of, serving_of};
-pub use script::{Ended, Memory, run_script, run_script_counted};
-pub use serving::{serve_on, serve_on_counted};
+pub use script::{Memory, run_script, run_script_counted};
+pub use serving::serve_on;
 pub use status::Status;

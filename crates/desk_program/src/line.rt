@@ -8,7 +8,6 @@ ghost use Rattle.std.specs.Prelude.{IfErr, OnErr, string_bytes};
 ghost use Rattle.std.specs.Vec.{vec_capacity, vec_len};
 ghost use Rattle.service_core.specs.Leaves.{LeavesDesk};
 ghost use Rattle.service_core.specs.Seen.{settings_of, tables_of};
-ghost use Rattle.desk_model.specs.Refusals.{names_its_right};
 ghost use Rattle.desk_texts.specs.Short.{is_short};
 ghost use Rattle.desk_texts.specs.Texts.{outcome_text};
 ghost use Rattle.desk_program.specs.FaultLines.{unavailable_text};

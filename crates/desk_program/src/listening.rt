@@ -14,12 +14,15 @@ use std::io::{self, BufReader, Read, Write};
 use std::net::OpenListener;
 use std::time::Clock;
 use store_core::Backend;
-use wire_core::{Routes, ServeFault, serve_one_by};
+use stream_core::{CountedReader, CountedWriter};
+use wire_core::{Routes, ServeFault, serve_one_counted};
 
-/// A listener, how many connections it gave, how they ended, and whether it failed to give one.
+/// A listener, how often it was asked for a connection, how many it gave, how they ended, and whether
+/// it failed to give one.
 #[derive(Drop)]
 pub struct CountedListener<'l, L> {
     listener: &'l L,
+    asked: u64,
     accepted: u64,
     answered: u64,
     unread: u64,
@@ -37,7 +40,8 @@ impl<'l, L: OpenListener> CountedListener<'l, L> {
     ghost use Rattle.std.specs.Prelude.{◌≡◌, ◌<◌, ◌+◌};
     ghost use Rattle.service_core.specs.Seen.{settings_of, tables_of};
     ghost use Rattle.desk_program.specs.Listening.{Accepts, AnswersAt, IsUncalled, Serves};
-    ghost use Rattle.desk_program.specs.Listening.{accepted_of, answered_of, has_accept_failed};
+    ghost use Rattle.desk_program.specs.Listening.{accepted_of, answered_of, asked_of};
+    ghost use Rattle.desk_program.specs.Listening.{has_accept_failed};
     ghost use Rattle.desk_program.specs.Listening.{is_answered, minute_of, unread_of};
 
     /// A listener that wasn't called so far.
@@ -46,11 +50,19 @@ impl<'l, L: OpenListener> CountedListener<'l, L> {
     {
         CountedListener {
             listener,
+            asked: 0,
             accepted: 0,
             answered: 0,
             unread: 0,
             failed: false,
         }
+    }
+
+    /// How often it was asked for a connection.
+    pub fn asked(&self) -> u64
+        ensures { result ≡ asked_of self.now }
+    {
+        self.asked
     }
 
     /// How many connections were accepted.
@@ -85,9 +97,11 @@ impl<'l, L: OpenListener> CountedListener<'l, L> {
     /// One accept: the connection, with the clock's minute once it was accepted; or none where it
     /// failed.
     pub fn accept<K: Clock>(&mut self, clock: &K) -> Option<Connection<L::Stream>>
-        requires { accepted_of self.old < 4294967296 }
+        requires asked { asked_of self.old < 4294967296 }
+        requires accepted { accepted_of self.old < 4294967296 }
         ensures { Accepts self.old self.new result }
     {
+        self.asked += 1;
         match self.listener.accept() {
             Ok((stream, _)) => {
                 self.accepted += 1;
@@ -180,7 +194,9 @@ fn serve_by<R: Read, W: Write, S: Backend>(
         (tables_of S.Store desk.old) (tables_of S.Store desk.new) }
     ensures left { LeavesDesk S.Store desk.old desk.new }
 {
-    serve_one_by(alloc, routes, reader, writer, moment, desk)
+    let mut reader = CountedReader::new(reader);
+    let mut output = CountedWriter::new(writer);
+    serve_one_counted(alloc, routes, &mut reader, &mut output, moment, desk)
 }
 
 /// The side of a stream that is read, or the one that is written: they take turns.

@@ -4,7 +4,6 @@
 //! would be taken apart for each function's own proof.
 ghost use Rattle.std.specs.Prelude.{◌≡◌, ◌⊎◌, ◌+◌, ◌≤◌, [], ℕ, Bool, List, Some, true, false, map};
 ghost use Rattle.std.specs.Prelude.{string_bytes};
-ghost use Rattle.sqlite.specs.Held.{Held};
 ghost use Rattle.store_core.specs.Seen.{connection_of, state_of};
 ghost use Rattle.store_tables.specs.Calls.{WasClean};
 ghost use Rattle.service_core.specs.Seen.{settings_of, tables_of};
@@ -29,17 +28,6 @@ use store_core::{Backend, Store};
 use stream_core::CountedWriter;
 use wire_core::{WordsFault, command_of_words};
 
-/// How one command ended, and the store that it was run on.
-#[derive(Drop)]
-pub struct OneEnded<S: Backend> {
-    /// The exit status.
-    pub status: u8,
-    /// Whether a write failed: it answered an error, or took no byte.
-    pub failed: bool,
-    /// The store, with what the command made of its tables.
-    pub store: Store<S>,
-}
-
 /// Runs one command by a caller, at a moment in minutes since 1970-01-01 00:00 UTC, on the tables
 /// of a store, with the settings of a text, and answers the exit status.
 ///
@@ -53,47 +41,26 @@ pub struct OneEnded<S: Backend> {
 ///
 /// A failed write, or one that takes no byte, ends it with status 4: what was written is then a
 /// part from the front of the text, and the change of the command stays.
-pub fn run_one<S: Backend + Drop, W: Write>(
+///
+/// The store is given back beside the status, with what the command made of its tables.
+pub fn run_one<S: Backend, W: Write>(
     alloc: Global,
     settings: &[u8],
     store: Store<S>,
     caller: &str,
     at: u32,
     words: &[String],
-    writer: &mut W,
-) -> u8
-    ensures { (left : Held S) × (failed : Bool) × RunsOne S.Store
+    output: &mut CountedWriter<'_, W>,
+) -> (u8, Store<S>)
+    requires { has_write_failed output.old ≡ false }
+    ensures same_writer { HaveOneWriter output.new output.old }
+    ensures ran { RunsOne S.Store W.contents
         (asked_by settings.now at caller.now (map string_bytes words.now))
-        (connection_of S.Store store) left (W.contents writer.old) (W.contents writer.new)
-        result failed }
+        (connection_of S.Store store) (connection_of S.Store result.1)
+        output.old output.new result.0 }
 {
-    let ended = run_one_whole(alloc, settings, store, caller, at, words, writer);
-    let status = ended.status;
-    drop(ended);
-    status
-}
-
-/// Runs one command as `run_one` does, and gives the store back.
-pub fn run_one_whole<S: Backend, W: Write>(
-    alloc: Global,
-    settings: &[u8],
-    store: Store<S>,
-    caller: &str,
-    at: u32,
-    words: &[String],
-    writer: &mut W,
-) -> OneEnded<S>
-    ensures { RunsOne S.Store (asked_by settings.now at caller.now (map string_bytes words.now))
-        (connection_of S.Store store) (connection_of S.Store result.store)
-        (W.contents writer.old) (W.contents writer.new) result.status result.failed }
-{
-    let mut output = CountedWriter::new(writer);
-    let (status, store) = run_words(alloc, settings, store, caller, at, words, &mut output);
-    OneEnded {
-        status: status.after(&output),
-        failed: output.failed(),
-        store,
-    }
+    let (status, store) = run_words(alloc, settings, store, caller, at, words, output);
+    (status.after(output), store)
 }
 
 /// Runs the command that the words spell: its status, if no write fails.

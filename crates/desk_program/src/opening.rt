@@ -45,32 +45,30 @@ pub fn take_settings<R: Read>(alloc: Global, reader: &mut R) -> Result<Vec<u8>, 
 }
 
 /// Prints the line of a fault of the input, and answers the status 4.
-pub fn tell_input_fault<W: Write>(fault: InputFault, writer: &mut W) -> u8
-    ensures { EndsWith (input_fault_text fault) 4
-        (W.contents writer.old) (W.contents writer.new) result }
+pub fn tell_input_fault<W: Write>(fault: InputFault, output: &mut CountedWriter<'_, W>) -> u8
+    ensures same_writer { HaveOneWriter output.new output.old }
+    ensures told { EndsWith W.contents (input_fault_text fault) 4 output.old output.new result }
 {
-    let mut output = CountedWriter::new(writer);
-    put_input_fault(&mut output, fault);
-    Status::Failed.after(&output)
+    put_input_fault(output, fault);
+    Status::Failed.after(output)
 }
 
 /// Prints the line of a fault of the store, and answers the status 4.
-pub fn tell_store_fault<W: Write>(fault: StoreFault, writer: &mut W) -> u8
-    ensures { EndsWith (store_fault_text fault) 4
-        (W.contents writer.old) (W.contents writer.new) result }
+pub fn tell_store_fault<W: Write>(fault: StoreFault, output: &mut CountedWriter<'_, W>) -> u8
+    ensures same_writer { HaveOneWriter output.new output.old }
+    ensures told { EndsWith W.contents (store_fault_text fault) 4 output.old output.new result }
 {
-    let mut output = CountedWriter::new(writer);
-    put_store_fault(&mut output, fault);
-    Status::Failed.after(&output)
+    put_store_fault(output, fault);
+    Status::Failed.after(output)
 }
 
-/// Prints that words aren't understood, and answers the status 2.
-pub fn tell_bad_words<W: Write>(writer: &mut W) -> u8
-    ensures { EndsWith bad_words_text 2 (W.contents writer.old) (W.contents writer.new) result }
+/// Prints that words aren't understood, and answers the status 2, or 4 where a write failed.
+pub fn tell_bad_words<W: Write>(output: &mut CountedWriter<'_, W>) -> u8
+    ensures same_writer { HaveOneWriter output.new output.old }
+    ensures told { EndsWith W.contents bad_words_text 2 output.old output.new result }
 {
-    let mut output = CountedWriter::new(writer);
-    put_bad_words(&mut output);
-    Status::BadWords.after(&output)
+    put_bad_words(output);
+    Status::BadWords.after(output)
 }
 
 /// The desk over the tables of a store, with the settings of a text. Tables that are missing are
@@ -84,16 +82,16 @@ pub fn open_desk<S: Backend + Drop, W: Write>(
     alloc: Global,
     store: Store<S>,
     settings: &[u8],
-    writer: &mut W,
+    output: &mut CountedWriter<'_, W>,
 ) -> Result<Desk<S>, u8>
+    ensures same_writer { HaveOneWriter output.new output.old }
     ensures opened { IfOk result (λ desk. IsOpened settings.now (state_of S.Store store)
         (settings_of S.Store desk) (tables_of S.Store desk)) }
-    ensures quiet { OnOk result (W.contents writer.new ≡ W.contents writer.old) }
-    ensures told { IfErr result (λ status. IsNotOpened S.Store settings.now
-        (connection_of S.Store store)
-        (W.contents writer.old) (W.contents writer.new) status) }
+    ensures quiet { OnOk result (output.new ≡ output.old) }
+    ensures told { IfErr result (λ status. IsNotOpened S.Store W.contents settings.now
+        (connection_of S.Store store) output.old output.new status) }
 {
-    match open_desk_whole(alloc, store, settings, writer) {
+    match open_desk_whole(alloc, store, settings, output) {
         Ok(desk) => Ok(desk),
         Err((status, store)) => {
             drop(store);
@@ -108,19 +106,18 @@ pub fn open_desk_whole<S: Backend, W: Write>(
     alloc: Global,
     store: Store<S>,
     settings: &[u8],
-    writer: &mut W,
+    output: &mut CountedWriter<'_, W>,
 ) -> Result<Desk<S>, (u8, Store<S>)>
+    ensures same_writer { HaveOneWriter output.new output.old }
     ensures opened { IfOk result (λ desk. IsOpened settings.now (state_of S.Store store)
         (settings_of S.Store desk) (tables_of S.Store desk)) }
-    ensures quiet { OnOk result (W.contents writer.new ≡ W.contents writer.old) }
-    ensures told { IfErr result (λ back. IsGivenBack S.Store settings.now
-        (connection_of S.Store store) (connection_of S.Store back.1)
-        (W.contents writer.old) (W.contents writer.new) back.0) }
+    ensures quiet { OnOk result (output.new ≡ output.old) }
+    ensures told { IfErr result (λ back. IsGivenBack S.Store W.contents settings.now
+        (connection_of S.Store store) (connection_of S.Store back.1) output.old output.new back.0) }
 {
-    let mut output = CountedWriter::new(writer);
-    match open(alloc, store, settings, &mut output) {
+    match open(alloc, store, settings, output) {
         Ok(desk) => Ok(desk),
-        Err((status, store)) => Err((status.after(&output), store)),
+        Err((status, store)) => Err((status.after(output), store)),
     }
 }
 

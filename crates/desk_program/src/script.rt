@@ -1,12 +1,12 @@
 //! A whole script, from its reader to its writer.
 
-ghost use Rattle.std.specs.Prelude.{◌≡◌, ◌≤◌, ◌+◌, ℕ, List, IfSome, Result, if◌then◌else◌};
+ghost use Rattle.std.specs.Prelude.{◌≡◌, ◌≤◌, ℕ, List, IfSome, Result};
 ghost use Rattle.desk_program.specs.Input as form;
 ghost use Rattle.desk_program.specs.Script as script;
-ghost use Rattle.desk_program.specs.Script.{RunsScript};
+ghost use Rattle.desk_program.specs.Script.{RunsScript, WritesScript};
 ghost use Rattle.desk_program.specs.Status.{code_of};
-ghost use Rattle.stream_core.specs.Seen.{HaveOneWriter, has_write_failed, left_in};
-ghost use Rattle.stream_core.specs.Seen.{reads_of, writes_of};
+ghost use Rattle.stream_core.specs.Calls.{counted};
+ghost use Rattle.stream_core.specs.Seen.{HaveOneWriter, left_in, reads_of};
 ghost use Rattle.stream_core.specs.Streams.{ConsumesAtMost};
 ghost use Rattle.stream_core.specs.Written.{Prints};
 ghost use Rattle.wire_core.specs.Counted.{LeavesReader};
@@ -31,40 +31,6 @@ pub enum Memory {
     Left,
 }
 
-/// How a script ended, and how often its reader and its writer were called.
-#[derive(Clone, Copy)]
-pub struct Ended {
-    /// The exit status.
-    pub status: u8,
-    /// How many reads were made.
-    pub reads: u64,
-    /// How many writes were made.
-    pub writes: u64,
-    /// Whether a write failed: it answered an error, or took no byte.
-    pub failed: bool,
-}
-
-impl Ended {
-    /// How a script ended that has this status if no write failed.
-    fn new<R: Read, W: Write>(
-        status: Status,
-        reader: &CountedReader<'_, R>,
-        output: &CountedWriter<'_, W>,
-    ) -> Ended
-        ensures status { result.status ≡ (if has_write_failed output.now then 4 else code_of status) }
-        ensures reads { result.reads ≡ reads_of reader.now }
-        ensures writes { result.writes ≡ writes_of output.now }
-        ensures failed { result.failed ≡ has_write_failed output.now }
-    {
-        Ended {
-            status: status.after(output),
-            reads: reader.reads(),
-            writes: output.writes(),
-            failed: output.failed(),
-        }
-    }
-}
-
 /// Runs a script over a desk in memory, and answers the exit status.
 ///
 /// The input has settings, a line `%%`, and a command on each line after it: a moment in minutes
@@ -73,34 +39,32 @@ impl Ended {
 /// one line. A failed write, or one that takes no byte, ends the run with status 4: what was
 /// written is then a part from the front of what the script prints.
 ///
-/// At most 1,048,577 bytes are taken of the reader, in at most as many reads, and at most as many
-/// writes are made as bytes are printed. The writer isn't flushed. A read or a write that was
-/// interrupted has failed.
+/// At most 1,048,577 bytes are taken of the reader. The writer isn't flushed. A read or a write that
+/// was interrupted has failed.
 pub fn run_script<R: Read, W: Write>(alloc: Global, reader: &mut R, writer: &mut W) -> u8
-    ensures ran { (ended : Ended) × (result ≡ ended.status) × RunsScript
-        (R.remaining reader.old) (W.contents writer.old) (W.contents writer.new) ended
-        × (ended.reads ≤ 1048577) }
-    ensures taken { ConsumesAtMost (R.remaining reader.old) (R.remaining reader.new) 1048577 }
-{
-    run_script_counted(alloc, reader, writer, Memory::GivenBack).status
-}
-
-/// Runs a script as `run_script` does, and counts the reads and the writes.
-pub fn run_script_counted<R: Read, W: Write>(
-    alloc: Global,
-    reader: &mut R,
-    writer: &mut W,
-    memory: Memory,
-) -> Ended
-    ensures ran { RunsScript
+    ensures ran { WritesScript
         (R.remaining reader.old) (W.contents writer.old) (W.contents writer.new) result }
     ensures taken { ConsumesAtMost (R.remaining reader.old) (R.remaining reader.new) 1048577 }
-    ensures reads { result.reads ≤ 1048577 }
 {
     let mut reader = CountedReader::new(reader);
     let mut output = CountedWriter::new(writer);
-    let status = print_script(alloc, &mut reader, &mut output, memory);
-    Ended::new(status, &reader, &output)
+    run_script_counted(alloc, &mut reader, &mut output, Memory::GivenBack)
+}
+
+/// Runs a script as `run_script` does, by a reader and a writer that count. At least one read is
+/// made, and at most 1,048,577, and at most as many writes as bytes are printed.
+pub fn run_script_counted<R: Read, W: Write>(
+    alloc: Global,
+    reader: &mut CountedReader<'_, R>,
+    output: &mut CountedWriter<'_, W>,
+    memory: Memory,
+) -> u8
+    ensures same_writer { HaveOneWriter output.new output.old }
+    ensures ran { RunsScript R.remaining W.contents reader.old output.old output.new result }
+    ensures left { LeavesReader R.remaining 1048577 reader.old reader.new }
+    ensures asked { counted (reads_of reader.old) ≤ reads_of reader.new }
+{
+    print_script(alloc, reader, output, memory).after(output)
 }
 
 /// Takes the input in and runs it: its status, if no write fails.
@@ -115,6 +79,7 @@ fn print_script<R: Read, W: Write>(
         × IfSome (left_in R.remaining reader.old) (λ all. all ≡ input)
         × script.IsOutput input text (code_of result) × Prints W.contents output.old output.new text }
     ensures left { LeavesReader R.remaining 1048577 reader.old reader.new }
+    ensures asked { counted (reads_of reader.old) ≤ reads_of reader.new }
 {
     match take_input(alloc, reader) {
         Ok(input) => run_input(alloc, input.as_slice(), output, memory),

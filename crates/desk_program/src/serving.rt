@@ -4,7 +4,6 @@ ghost use Rattle.service_core.specs.Leaves.{LeavesDesk};
 ghost use Rattle.service_core.specs.Seen.{settings_of, tables_of};
 ghost use Rattle.desk_program.specs.Listening.{IsUncalled};
 ghost use Rattle.desk_program.specs.Serving.{IsEnded};
-ghost use Rattle.desk_program.specs.declared.listening.CountedListener.{CountedListener};
 
 use crate::listening::CountedListener;
 use crate::status::Status;
@@ -16,30 +15,12 @@ use std::time::Clock;
 use store_core::Backend;
 use wire_core::Routes;
 
-/// Answers so many connections, one after the other: each is served as `serve_one` does, at the
-/// clock's minute once it is accepted, and its fault is passed over. The status is then 0; where a
-/// connection can't be accepted it ends there with 4.
+/// Answers so many connections, one after the other, by a listener that counts and wasn't called so
+/// far: each is served as `serve_one` does, at the clock's minute once it is accepted, and its fault
+/// is passed over. The status is then 0; where a connection can't be accepted it ends there with 4.
+/// As many connections were accepted as the listener says, and the desk was led by each of them: by a
+/// message step or, where a read failed, by none, as often as it says.
 pub fn serve_on<L: OpenListener, K: Clock, S: Backend>(
-    alloc: Global,
-    listener: &L,
-    count: u32,
-    clock: &K,
-    desk: &mut Desk<S>,
-) -> u8
-where
-    L::Stream: Read + Write,
-    ensures ended { (counted : CountedListener L) × IsEnded (settings_of S.Store desk.old) count
-        result counted (tables_of S.Store desk.old) (tables_of S.Store desk.new) }
-    ensures left { LeavesDesk S.Store desk.old desk.new }
-{
-    let mut listener = CountedListener::new(listener);
-    serve_on_counted(alloc, &mut listener, count, clock, desk)
-}
-
-/// Answers connections as `serve_on` does, by a listener that counts and wasn't called so far. As
-/// many connections were accepted as it says, and the desk was led by each of them, one after the
-/// other: by a message step or, where a read failed, by none, as often as it says.
-pub fn serve_on_counted<L: OpenListener, K: Clock, S: Backend>(
     alloc: Global,
     listener: &mut CountedListener<'_, L>,
     count: u32,

@@ -14,7 +14,7 @@ use Rattle.desk_model.specs.declared.rows.EntryKind.TheVariants as kind
 use Rattle.desk_model.specs.declared.rows.RequestRow.{RequestRow}
 use Rattle.desk_model.specs.declared.rows.Turn.TheVariants.{Desk}
 use Rattle.desk_texts.specs.Columns.{left, right, right_number}
-use Rattle.desk_texts.specs.Short.{is_short, is_short_refusal}
+use Rattle.desk_texts.specs.Short.{is_short}
 use Rattle.desk_texts.specs.Texts.{both_lines, line, link_lines, listed, moment_lines}
 use Rattle.desk_texts.specs.Texts.{numbers, outcome_text, person_lines, refusal_text, row_lines}
 use Rattle.desk_texts.specs.Texts.History.{columns as entry_columns, entry_words, history_text}
@@ -96,14 +96,6 @@ list_is_not_short = refl
 
 refusal_is_short : is_short (Err NotFound) ≡ true
 refusal_is_short = refl
-
-right_of_32_letters :
-    is_short_refusal (Denied (codes "ABCDEFGHIJKLMNOPqrstuvwxyzabcdef")) ≡ true
-right_of_32_letters = refl
-
-right_of_33_letters :
-    is_short_refusal (Denied (codes "ABCDEFGHIJKLMNOPqrstuvwxyzabcdefg")) ≡ false
-right_of_33_letters = refl
 
 -- Texts.antt: a request
 

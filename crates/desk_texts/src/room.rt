@@ -1,8 +1,7 @@
 //! The text of what came of a command, once there is room for a short one.
 ghost use Rattle.std.specs.Prelude.{◌≡◌, ◌≤◌, ◌+◌, [], true, false, is_ok, length, string_bytes};
-ghost use Rattle.std.specs.Prelude.{IfErr, IfOk, OnErr};
+ghost use Rattle.std.specs.Prelude.{IfOk, OnErr};
 ghost use Rattle.std.specs.Vec.{vec_capacity, vec_len};
-ghost use Rattle.desk_model.specs.Refusals.{names_its_right};
 ghost use Rattle.desk_texts.specs.Short.{is_short};
 ghost use Rattle.desk_texts.specs.Texts.{outcome_text};
 
@@ -19,7 +18,6 @@ pub fn text_in_room(
     outcome: &Result<Answer, Refusal>,
     mut room: Vec<u8>,
 ) -> Result<Vec<u8>, AllocError>
-    requires named { IfErr outcome.now (λ refusal. names_its_right refusal ≡ true) }
     requires empty { room.items ≡ [] }
     requires room { vec_len room + 64 ≤ vec_capacity room }
     ensures ok { IfOk result (λ text. text.items ≡ outcome_text outcome.now) }

@@ -1,8 +1,6 @@
 //! Short answers, put after other bytes without taking memory.
-ghost use Rattle.std.specs.Prelude.{◌≡◌, ◌++◌, ◌+◌, ◌≤◌, true, length, decimal, IfErr};
+ghost use Rattle.std.specs.Prelude.{◌≡◌, ◌++◌, ◌+◌, ◌≤◌, true, length, decimal};
 ghost use Rattle.std.specs.Vec.{vec_capacity, vec_len};
-ghost use Rattle.desk_model.specs.Refusals.{names_its_right};
-ghost use Rattle.desk_texts.specs.Short as short;
 ghost use Rattle.desk_texts.specs.Short.{is_short};
 ghost use Rattle.desk_texts.specs.Texts as text;
 
@@ -26,11 +24,9 @@ pub fn is_short(outcome: &Result<Answer, Refusal>) -> bool
 }
 
 /// Puts the text of `Done`, of `Created` or of a refusal at the end, where there is room for 64
-/// bytes. Takes no memory. What `Denied` names is a right's name, as it is of each refusal of a
-/// desk: so its text fits.
+/// bytes. Takes no memory.
 pub fn put_short(outcome: &Result<Answer, Refusal>, out: &mut Vec<u8>)
     requires short { is_short outcome.now ≡ true }
-    requires named { IfErr outcome.now (λ refusal. names_its_right refusal ≡ true) }
     requires room { vec_len out.old + 64 ≤ vec_capacity out.old }
     ensures put { out.new.items ≡ out.old.items ++ text.outcome_text outcome.now }
     ensures short { vec_len out.new ≤ vec_len out.old + 64 }
@@ -53,8 +49,7 @@ fn put_created(out: &mut Vec<u8>, id: u32)
 }
 
 fn put_refusal(out: &mut Vec<u8>, refusal: &Refusal)
-    requires short { short.is_short_refusal refusal.now ≡ true }
-    requires room { vec_len out.old + 64 ≤ vec_capacity out.old }
+    requires { vec_len out.old + 64 ≤ vec_capacity out.old }
     ensures put { out.new.items ≡ out.old.items ++ text.refusal_text refusal.now }
     ensures short { vec_len out.new ≤ vec_len out.old + 64 }
 {
@@ -62,11 +57,21 @@ fn put_refusal(out: &mut Vec<u8>, refusal: &Refusal)
     put_number(out, u32::from(refusal.number()));
     put(out, " ");
     put(out, refusal.name());
+    put_right(out, refusal);
+    put(out, "\n");
+}
+
+/// Puts the right that a refusal names, behind a space: 33 bytes at most.
+fn put_right(out: &mut Vec<u8>, refusal: &Refusal)
+    requires { vec_len out.old + 33 ≤ vec_capacity out.old }
+    ensures put { out.new.items ≡ out.old.items ++ text.right_text refusal.now }
+    ensures short { vec_len out.new ≤ vec_len out.old + 33 }
+    ensures room { vec_capacity out.old ≤ vec_capacity out.new }
+{
     if let Refusal::Denied(right) = refusal {
         put(out, " ");
         put(out, right.as_str());
     }
-    put(out, "\n");
 }
 
 fn put_number(out: &mut Vec<u8>, number: u32)

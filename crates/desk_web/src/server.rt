@@ -11,6 +11,7 @@ use std::alloc::AllocError;
 use std::io::{self, Write};
 use std::net::SocketAddr;
 use store_core::{Backend, Store, StoreFault};
+use stream_core::CountedWriter;
 use web_core::{Copies, WebDesk, serve_web};
 
 /// The exit status where as many messages were answered as were to be, or the server was asked to stop.
@@ -32,7 +33,8 @@ pub fn serve_over<S: Backend + Drop, W: Write>(
 ) -> (u8, Option<Connection<S>>)
     requires { tables.in_transaction ≡ false }
 {
-    match open_desk(rt.alloc(), Store::adopt(tables), settings, output) {
+    let mut output = CountedWriter::new(output);
+    match open_desk(rt.alloc(), Store::adopt(tables), settings, &mut output) {
         Ok(desk) => {
             let copies = FileCopies {
                 rt,
@@ -75,7 +77,12 @@ fn listen<S: Backend, C: Copies>(
 /// status.
 fn tell_ending(rt: &HostRuntime, ended: Result<Ending, AllocError>, is_shut: bool) -> u8 {
     match ended {
-        Ok(Ending::Shut) if is_shut => tell_store_fault(StoreFault::Refused, &mut io::writer(rt)),
+        Ok(Ending::Shut) if is_shut => {
+            tell_store_fault(
+                StoreFault::Refused,
+                &mut CountedWriter::new(&mut io::writer(rt)),
+            )
+        }
         Ok(Ending::Counted | Ending::Shut) => DONE,
         Ok(Ending::Network | Ending::Spent) | Err(_) => refuse_network(rt),
     }

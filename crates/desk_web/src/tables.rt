@@ -7,12 +7,13 @@ use desk_program::{tell_input_fault, tell_store_fault};
 use sqlite::Connection;
 use std::io;
 use store_core::StoreFault;
+use stream_core::CountedWriter;
 
 /// Reads the settings, opens the tables, serves, and closes the tables.
 pub fn run(rt: &HostRuntime, asked: &Asked<'_>) -> u8 {
     match read_settings(rt, asked.settings) {
         Ok(settings) => run_on_file(rt, asked, settings.as_slice()),
-        Err(fault) => tell_input_fault(fault, &mut io::writer(rt)),
+        Err(fault) => tell_input_fault(fault, &mut CountedWriter::new(&mut io::writer(rt))),
     }
 }
 
@@ -21,7 +22,7 @@ pub fn run(rt: &HostRuntime, asked: &Asked<'_>) -> u8 {
 fn run_on_file(rt: &HostRuntime, asked: &Asked<'_>, settings: &[u8]) -> u8 {
     let mut output = io::writer(rt);
     let Ok(tables) = Connection::open(rt, asked.tables) else {
-        return tell_store_fault(StoreFault::Refused, &mut output);
+        return tell_store_fault(StoreFault::Refused, &mut CountedWriter::new(&mut output));
     };
     let (status, tables) = serve_over(rt, asked, settings, tables, &mut output);
     if let Some(tables) = tables {

@@ -1,9 +1,8 @@
 -- What every desk refuses, and what is read where it doesn't, are the outcomes of a search and of
 -- the counts of queues.
-use Rattle.std.proofs.Common.{◌≡◌, ◌≢◌, ◌∙◌, ℕ, true, List, Option, Some, None, Result, Ok, Err}
+use Rattle.std.proofs.Common.{◌≡◌, ◌≢◌, ◌∙◌, ℕ, List, Option, Some, None, Result, Ok, Err}
 use Rattle.std.proofs.Common.{IfErr, IfOk, ap}
 use Rattle.settings_core.specs.declared.settings.Settings.{Settings}
-use Rattle.desk_model.specs.Refusals.{names_its_right}
 use Rattle.desk_model.specs.Step.{refusal_beforehand}
 use Rattle.desk_model.specs.declared.command.Command.{Command}
 use Rattle.desk_model.specs.declared.command.Command.TheVariants.{Overdue}
@@ -12,11 +11,6 @@ use Rattle.desk_model.specs.declared.refusal.Refusal.TheVariants.{Unavailable}
 use Rattle.find_core.specs.Find.{refusal_of, unless_refused}
 
 module _ {X : Type 0} where
-  pub named_by : (result : Result X Refusal) → IfErr result (λ refusal. refusal ≡ Unavailable)
-      → IfErr result (λ refusal. names_its_right refusal ≡ true)
-  named_by (Ok read) h = tt
-  named_by (Err refusal) h = ap names_its_right h
-
   as_read : (result : Result X Refusal) (answer : X)
       → IfOk result (λ it. it ≡ answer) → IfErr result (λ refusal. refusal ≡ Unavailable)
       → result ≢ Err Unavailable → result ≡ Ok answer

@@ -1,7 +1,6 @@
 -- A run goes on by one step.
 use Rattle.std.proofs.Common.{◌≡◌, ◌<◌, ◌≤◌, ◌+◌, ℕ, List, [], ◌∷◌, ◌++◌, ◌∙◌, String, ap}
-use Rattle.std.proofs.Common.{IfErr, get_or, length, map, refl, string_bytes, subst, sym, take}
-use Rattle.std.proofs.Common.{true}
+use Rattle.std.proofs.Common.{get_or, length, map, refl, string_bytes, subst, sym, take}
 use Rattle.std.proofs.lemmas.List.{map-append, take_more}
 use Rattle.sqlite.specs.State.{State}
 use Rattle.settings_core.specs.declared.settings.Settings.{Settings}
@@ -10,8 +9,6 @@ use Rattle.desk_model.specs.Desk.{Desk}
 use Rattle.desk_model.specs.Step.{Ask, Outcome, RunsBy}
 use Rattle.store_core.proofs.FactsLemmasOfDesk.{take_all}
 use Rattle.store_tables.specs.Calls.{WasClean}
-use Rattle.desk_model.specs.Refusals.{names_its_right}
-use Rattle.desk_texts.specs.Short.{AreNamed}
 use Rattle.service_core.specs.TableSteps.{IsStep, RunsOn, StepsOn, ask_by}
 use Rattle.service_core.specs.TableSteps.{ask_of, asks_of}
 
@@ -78,10 +75,3 @@ pub all_asked : {A : Type 0} (s : Settings) (asked : List (ℕ × String A × Co
 all_asked s asked i outcomes old new all run =
     subst (λ (xs : List (ℕ × String _ × Command)). RunsOn s (map ask_of xs) outcomes old new)
     (take_all i asked all) run
-
--- one outcome more
-pub named_more : (outcomes : List Outcome) (outcome : Outcome) → AreNamed outcomes
-    → IfErr outcome (λ refusal. names_its_right refusal ≡ true)
-    → AreNamed (outcomes ++ outcome ∷ [])
-named_more [] outcome named one = (one, tt)
-named_more (o ∷ os) outcome named one = (named.0, named_more os outcome named.1 one)

@@ -1,10 +1,9 @@
 -- What is left of the store, beside what is done of a command.
-use Rattle.std.proofs.Common.{◌≡◌, Err, IfErr, true}
+use Rattle.std.proofs.Common.{◌≡◌, Err, IfErr}
 use Rattle.sqlite.specs.State.{HasCleanDisk, State}
 use Rattle.settings_core.specs.declared.settings.Settings.{Settings}
 use Rattle.desk_model.specs.Desk.{Desk}
 use Rattle.desk_model.specs.IsDesk.{IsDesk}
-use Rattle.desk_model.specs.Refusals.{names_its_right}
 use Rattle.desk_model.specs.Step.{Ask, Outcome, facts_of}
 use Rattle.desk_model.specs.declared.facts.Facts.{Facts}
 use Rattle.desk_model.specs.declared.refusal.Refusal.{Refusal}
@@ -16,18 +15,16 @@ use Rattle.store_tables.specs.Contents.{contents_of}
 use Rattle.service_core.specs.Decided.{StepsSeeing}
 use Rattle.service_core.specs.Leaves.{StepsSafely}
 use Rattle.service_core.specs.TableSteps.{StepsOn}
-use Rattle.service_core.proofs.FindLemmas.{named_by}
 use Rattle.service_core.proofs.LeftLemmas.{keeps_after, spared_keeps}
 use Rattle.service_core.proofs.Stepping.{spared_after, spared_by}
 
 -- a command that is refused before anything is done
 pub refused_safely : (Does : Outcome → State → State → Type 0) (tables : State)
-    (refusal : Refusal) → Does (Err refusal) tables tables → names_its_right refusal ≡ true
+    (refusal : Refusal) → Does (Err refusal) tables tables
     → StepsSafely Does tables tables (Err refusal)
-refused_safely Does tables refusal step named = record {
+refused_safely Does tables refusal step = record {
   step = step;
   refused = unread tables;
-  named = named;
   keeps = spared_keeps (unread tables);
 }
 
@@ -39,7 +36,6 @@ pub spared_safely : (Does : Outcome → State → State → Type 0) (old new : S
 spared_safely Does old new outcome step fault kept = record {
   step = step;
   refused = spared_by outcome old new kept;
-  named = named_by outcome fault;
   keeps = spared_keeps kept;
 }
 
@@ -57,6 +53,5 @@ seen_safely facts s ask old mid new outcome seen kept done = record {
       (stands kept (contents_of (due_of_row s desk) desk) stand) clean in
       (stepped.0, (stepped.1, stepped.1.laws.desk), stepped.2);
   refused = spared_after outcome old mid new kept done.refused;
-  named = done.named;
   keeps = keeps_after kept done.keeps;
 }

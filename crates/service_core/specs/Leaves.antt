@@ -3,7 +3,6 @@
 use Rattle.std.specs.Prelude.{◌≡◌, Bool, true, IfErr, OnErr}
 use Rattle.sqlite.specs.State.{State}
 use Rattle.sqlite.specs.Store.{Ghosts}
-use Rattle.desk_model.specs.Refusals.{names_its_right}
 use Rattle.desk_model.specs.Step.{Outcome}
 use Rattle.store_tables.specs.Calls.{Lasts, Spares, WasClean}
 use Rattle.stream_core.specs.Seen.{HaveOneWriter, has_write_failed}
@@ -33,10 +32,9 @@ pub record LeavesWriter {W : Type 0} (has_failed : Bool) (old new : CountedWrite
   pub failed : has_write_failed new ≡ has_failed
 
 -- What is done of a command is `Does`. Where it is refused the tables stay as they were, whatever
--- rows they have, and a right that the refusal names is a right's name. The store is kept.
+-- rows they have. The store is kept.
 pub record StepsSafely (Does : Outcome → State → State → Type 0) (old new : State)
     (outcome : Outcome) : Type 0 where
   pub step : Does outcome old new
   pub refused : OnErr outcome (Spares old new)
-  pub named : IfErr outcome (λ refusal. names_its_right refusal ≡ true)
   pub keeps : KeepsStore old new

@@ -2,7 +2,6 @@
 ghost use Rattle.std.specs.Prelude.{◌≡◌, ℕ, true, IfErr, IfOk, Some, None};
 ghost use Rattle.desk_model.specs.Facts.{facts_on_request};
 ghost use Rattle.desk_model.specs.Step.{answer_of, refusal_beforehand};
-ghost use Rattle.desk_model.specs.Refusals.{names_its_right};
 ghost use Rattle.store_tables.specs.Calls.{Spares, Tells};
 ghost use Rattle.store_core.specs.Due.{TellsDue};
 ghost use Rattle.store_core.specs.Seen.{state_of};
@@ -36,7 +35,6 @@ impl<S: Backend> Desk<S> {
         ensures told { DossierOn (settings_of S.Store self.old) at caller.now id result
             (tables_of S.Store self.old) (tables_of S.Store self.new) }
         ensures kept { Spares (tables_of S.Store self.old) (tables_of S.Store self.new) }
-        ensures named { IfErr result (λ refusal. names_its_right refusal ≡ true) }
         ensures same { settings_of S.Store self.new ≡ settings_of S.Store self.old }
     {
         let show = Command::Show { id };
@@ -62,7 +60,6 @@ fn ask<S: Backend>(
     ensures told { DossierOn call.entry.settings.now call.entry.at call.entry.caller.now id result
         (state_of S.Store store.old) (state_of S.Store store.new) }
     ensures kept { Spares (state_of S.Store store.old) (state_of S.Store store.new) }
-    ensures named { IfErr result (λ refusal. names_its_right refusal ≡ true) }
 {
     match refused_beforehand(call.settings, call.at, call.caller, show) {
         Some(refusal) => Err(refusal),
@@ -84,7 +81,6 @@ fn look<S: Backend>(
     ensures told { DossierOn call.entry.settings.now call.entry.at call.entry.caller.now id result
         (state_of S.Store store.old) (state_of S.Store store.new) }
     ensures kept { Spares (state_of S.Store store.old) (state_of S.Store store.new) }
-    ensures named { IfErr result (λ refusal. names_its_right refusal ≡ true) }
 {
     match store.facts_for(alloc, show) {
         Ok(facts) => {
@@ -112,7 +108,6 @@ fn judged<S: Backend>(
         call.entry.settings.now call.entry.at call.entry.caller.now id result
         (state_of S.Store store.old) (state_of S.Store store.new) }
     ensures kept { Spares (state_of S.Store store.old) (state_of S.Store store.new) }
-    ensures named { IfErr result (λ refusal. names_its_right refusal ≡ true) }
 {
     match decide_on_facts(alloc, call.settings, call.at, call.caller, facts, show) {
         Ok(change) => {

@@ -4,7 +4,6 @@
 //! would be taken apart for each function's own proof.
 ghost use Rattle.std.specs.Prelude.{◌≡◌, true, None, IfErr, IfOk, OnErr};
 ghost use Rattle.desk_model.specs.Plan.{told_of};
-ghost use Rattle.desk_model.specs.Refusals.{names_its_right};
 ghost use Rattle.desk_model.specs.Step.{refusal_beforehand};
 ghost use Rattle.store_tables.specs.Calls.{Spares};
 ghost use Rattle.store_core.specs.Seen.{state_of};
@@ -41,7 +40,6 @@ impl<S: Backend> Desk<S> {
             (tables_of S.Store self.old) (tables_of S.Store self.new) }
         ensures refused { OnErr result
             (Spares (tables_of S.Store self.old) (tables_of S.Store self.new)) }
-        ensures named { IfErr result (λ refusal. names_its_right refusal ≡ true) }
         ensures left { LeavesDesk S.Store self.old self.new }
     {
         let settings = &self.settings;

@@ -1,6 +1,5 @@
 //! What a search finds.
 ghost use Rattle.std.specs.Prelude.{◌≡◌, true, IfErr};
-ghost use Rattle.desk_model.specs.Refusals.{names_its_right};
 ghost use Rattle.store_tables.specs.Calls.{Spares};
 ghost use Rattle.store_core.specs.Seen.{state_of};
 ghost use Rattle.service_core.specs.Finding.{FindsOn};
@@ -33,7 +32,6 @@ impl<S: Backend> Desk<S> {
         ensures found { FindsOn (settings_of S.Store self.old) at caller.now search.now limit after
             result (tables_of S.Store self.old) (tables_of S.Store self.new) }
         ensures kept { Spares (tables_of S.Store self.old) (tables_of S.Store self.new) }
-        ensures named { IfErr result (λ refusal. names_its_right refusal ≡ true) }
         ensures same { settings_of S.Store self.new ≡ settings_of S.Store self.old }
     {
         let overdue = Command::Overdue;
@@ -61,7 +59,6 @@ fn look<S: Backend>(
     ensures found { FindsOn call.entry.settings.now call.entry.at call.entry.caller.now search.now
         limit after result (state_of S.Store store.old) (state_of S.Store store.new) }
     ensures kept { Spares (state_of S.Store store.old) (state_of S.Store store.new) }
-    ensures named { IfErr result (λ refusal. names_its_right refusal ≡ true) }
 {
     match refused_beforehand(call.settings, call.at, call.caller, overdue) {
         Some(refusal) => Err(refusal),

@@ -1,6 +1,5 @@
 //! A list of commands on the desk.
 ghost use Rattle.std.specs.Prelude.{◌≡◌, IfOk, OnErr};
-ghost use Rattle.desk_texts.specs.Short.{AreNamed};
 ghost use Rattle.service_core.specs.TableSteps.{RunsOn, asks_of};
 ghost use Rattle.service_core.specs.Leaves.{LeavesDesk};
 ghost use Rattle.service_core.specs.Seen.{settings_of, tables_of};
@@ -24,7 +23,6 @@ impl<S: Backend> Desk<S> {
         ensures run { IfOk result (λ outcomes. RunsOn (settings_of S.Store self.old)
             (asks_of asks.now) outcomes.items
             (tables_of S.Store self.old) (tables_of S.Store self.new)) }
-        ensures named { IfOk result (λ outcomes. AreNamed outcomes.items) }
         ensures err { OnErr result (self.new ≡ self.old) }
         ensures left { LeavesDesk S.Store self.old self.new }
     {

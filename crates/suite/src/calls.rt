@@ -4,12 +4,13 @@
 use crate::asks::Ask;
 use crate::served::Sent;
 use desk_core::{Answer, Command, Refusal};
-use desk_program::{OneEnded, run_one, run_one_whole, run_script};
+use desk_program::{run_one, run_script};
 use service_core::{AttachFault, Desk};
 use settings_core::Settings;
 use std::alloc::{AllocError, Global};
 use std::io::{Read, Write};
 use store_core::{Backend, Store};
+use stream_core::CountedWriter;
 use wire_core::{Routes, ServeFault, serve_list, serve_one};
 
 /// What comes of a command.
@@ -82,32 +83,20 @@ pub(crate) struct Single<'s> {
     pub(crate) words: &'s [String],
 }
 
-pub(crate) fn run_alone<S: Backend + Drop, W: Write>(
+/// Runs a command by itself: its status, whether a write failed, and the store.
+pub(crate) fn run_alone<S: Backend, W: Write>(
     alloc: Global,
     store: Store<S>,
     single: Single<'_>,
     writer: &mut W,
-) -> u8 {
+) -> (u8, bool, Store<S>) {
     let Single {
         settings,
         caller,
         at,
         words,
     } = single;
-    run_one(alloc, settings, store, caller, at, words, writer)
-}
-
-pub(crate) fn run_whole<S: Backend, W: Write>(
-    alloc: Global,
-    store: Store<S>,
-    single: Single<'_>,
-    writer: &mut W,
-) -> OneEnded<S> {
-    let Single {
-        settings,
-        caller,
-        at,
-        words,
-    } = single;
-    run_one_whole(alloc, settings, store, caller, at, words, writer)
+    let mut output = CountedWriter::new(writer);
+    let (status, store) = run_one(alloc, settings, store, caller, at, words, &mut output);
+    (status, output.failed(), store)
 }

@@ -57,7 +57,8 @@ fn run_alone<S: Backend + Drop>(
     let words = words_of(alloc, line)?;
     let single = single_of(settings, words.as_slice())?;
     let mut text = Vec::new(alloc);
-    let status = calls::run_alone(alloc, store, single, &mut text);
+    let (status, _, store) = calls::run_alone(alloc, store, single, &mut text);
+    drop(store);
     writeln!(out, "{line}: status {status}\n{}", str_of(text.as_slice()))?;
     Ok(())
 }
@@ -119,13 +120,12 @@ fn run_whole<S: Backend + Drop>(
     let words = words_of(alloc, line)?;
     let single = single_of(settings, words.as_slice())?;
     let mut text = Vec::new(alloc);
-    let ended = calls::run_whole(alloc, store, single, &mut text);
-    let (status, failed) = (ended.status, ended.failed);
+    let (status, failed, store) = calls::run_alone(alloc, store, single, &mut text);
     let text = str_of(text.as_slice());
     match writeln!(out, "{line}: status {status}, failed {failed}\n{text}") {
-        Ok(()) => Ok(ended.store),
+        Ok(()) => Ok(store),
         Err(error) => {
-            drop(ended);
+            drop(store);
             Err(Failure::Memory(error))
         }
     }

@@ -27,4 +27,4 @@ pub use list::{serve_bytes, serve_list};
 pub use message_core::{Allow, Message, Reply, WireFault, answer_bytes, put_reply, read_message};
 pub use replies::{code_of_refusal, is_head};
 pub use route_core::{CommandFault, Routes, command_of};
-pub use serve::{serve_one, serve_one_by, serve_one_counted};
+pub use serve::{serve_one, serve_one_counted};

@@ -47,33 +47,13 @@ pub fn serve_one<R: Read, W: Write, S: Backend>(
     ensures taken { ConsumesAtMost (R.remaining reader.old) (R.remaining reader.new) 73728 }
     ensures left { LeavesDesk S.Store desk.old desk.new }
 {
-    serve_one_by(alloc, None, reader, writer, moment, desk)
-}
-
-/// The same by a router, if there is one, as `serve_one` without: a server has it made once.
-pub fn serve_one_by<R: Read, W: Write, S: Backend>(
-    alloc: Global,
-    routes: Option<&Routes>,
-    reader: &mut R,
-    writer: &mut W,
-    moment: u32,
-    desk: &mut Desk<S>,
-) -> Result<(), ServeFault>
-    ensures served { IsServed (settings_of S.Store desk.old) moment
-        (R.remaining reader.old) (R.remaining reader.new)
-        (W.contents writer.old) (W.contents writer.new) result
-        (tables_of S.Store desk.old) (tables_of S.Store desk.new) }
-    ensures untouched { result ≡ Err ServeFault.Read → desk.new ≡ desk.old }
-    ensures taken { ConsumesAtMost (R.remaining reader.old) (R.remaining reader.new) 73728 }
-    ensures left { LeavesDesk S.Store desk.old desk.new }
-{
     let mut reader = CountedReader::new(reader);
     let mut output = CountedWriter::new(writer);
-    serve_one_counted(alloc, routes, &mut reader, &mut output, moment, desk)
+    serve_one_counted(alloc, None, &mut reader, &mut output, moment, desk)
 }
 
-/// Serves one message as `serve_one_by` does, by a reader that counts, and a writer that counts and
-/// hasn't failed. `Read` is answered exactly where a read failed, and `Write` exactly where a write
+/// Serves one message as `serve_one` does, by a router, if there is one, which a server has made once;
+/// by a reader that counts, and a writer that counts and hasn't failed. `Read` is answered exactly where a read failed, and `Write` exactly where a write
 /// failed. At most 73,728 reads are made, and at most as many writes as the reply has bytes.
 pub fn serve_one_counted<R: Read, W: Write, S: Backend>(
     alloc: Global,

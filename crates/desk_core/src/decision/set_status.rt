@@ -4,7 +4,6 @@ ghost use Rattle.std.specs.Prelude.{◌≡◌, ◌+◌, ◌^◌, ◌<◌, true, 
 ghost use Rattle.desk_model.specs.Commands.SetStatus as set_status;
 ghost use Rattle.desk_model.specs.Entries as entries;
 ghost use Rattle.desk_model.specs.Plan.{Dependencies};
-ghost use Rattle.desk_model.specs.Refusals.{names_its_right};
 ghost use Rattle.desk_core.specs.Context.{call_of, DecidesOn, PassesOn};
 
 use crate::decision::Context;
@@ -18,7 +17,6 @@ impl Context<'_> {
     pub(super) fn set_status(&self, status: &Text) -> Result<Change, Refusal>
         ensures decides { DecidesOn result Dependencies
             (set_status.conditions status.now) (set_status.change status.now) self.now }
-        ensures named { IfErr result (λ refusal. names_its_right refusal ≡ true) }
     {
         let request = self.shown()?;
         self.ask_to_move(request, status)?;
@@ -34,7 +32,6 @@ impl Context<'_> {
     fn ask_to_move(&self, request: &SeenRequest, status: &Text) -> Result<(), Refusal>
         ensures asks { PassesOn result (set_status.conditions status.now) self.now request.now }
         ensures fits { OnOk result (request.now.entry_count + 1 < 2 ^ 32) }
-        ensures named { IfErr result (λ refusal. names_its_right refusal ≡ true) }
     {
         let lifecycle = lifecycle_of(self.settings, &self.facts.queue);
         let (from, to) = (request.row.status.as_str(), status.as_str());

@@ -3,7 +3,6 @@ use Rattle.std.proofs.Common.{◌∙◌, sym}
 use Rattle.store_core.specs.Seen.{state_of}
 use Rattle.service_core.specs.Asked.{asked}
 use Rattle.service_core.specs.Decided.{StepsSeeing}
-use Rattle.service_core.proofs.FindLemmas.{named_by}
 use Rattle.service_core.proofs.Safely.{refused_safely, spared_safely}
 use Rattle.service_core.proofs.Stepping.{decided_seeing, read_where, refused_seeing}
 use Rattle.service_core.proofs.Stepping.{written_where}
@@ -41,7 +40,6 @@ returns-else-is_reading g c =
           decided_seeing facts c.in-Ok.change s ask c.write.result old new
           c.in-Ok.ensures.accepts c.in-Ok.ensures.planned.0.1 carried;
       refused = c.write.ensures.undone;
-      named = named_by c.write.result c.write.ensures.fault;
       keeps = c.write.ensures.keeps;
     }
 
@@ -53,4 +51,3 @@ returns-in-Err g c =
     let tables = state_of g.S.Store c.args.store.now in
     refused_safely (StepsSeeing facts s ask) tables c.in-Err.refusal
     (refused_seeing facts s ask c.in-Err.refusal tables c.in-Err.ensures.refuses)
-    c.in-Err.ensures.named

@@ -3,7 +3,7 @@ use Rattle.store_tables.specs.Contents.{contents_of}
 use Rattle.store_tables.proofs.Spared.{stands}
 use Rattle.store_core.specs.Due.{due_of_row}
 use Rattle.find_core.specs.Find.{findings}
-use Rattle.service_core.proofs.FindLemmas.{named_by, read_so, refused_so}
+use Rattle.service_core.proofs.FindLemmas.{read_so, refused_so}
 use Rattle.service_core.proofs.find.look.Goals as goal
 
 pub returns-in-Some-clause-found : goal.returns-in-Some-clause-found
@@ -23,6 +23,3 @@ returns-in-None-clause-found g c desk is stand clean = (
       (c.find.ensures.told desk is stand clean) c.find.ensures.fault,
   stands c.find.ensures.kept (contents_of (due_of_row c.args.call.settings.now desk) desk) stand,
 )
-
-pub returns-in-None-clause-named : goal.returns-in-None-clause-named
-returns-in-None-clause-named g c = named_by c.find.result c.find.ensures.fault

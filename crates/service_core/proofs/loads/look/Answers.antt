@@ -3,7 +3,7 @@ use Rattle.store_tables.specs.Contents.{contents_of}
 use Rattle.store_tables.proofs.Spared.{stands}
 use Rattle.store_core.specs.Due.{due_of_row}
 use Rattle.find_core.specs.Loads.{queue_loads}
-use Rattle.service_core.proofs.FindLemmas.{named_by, read_so, refused_so}
+use Rattle.service_core.proofs.FindLemmas.{read_so, refused_so}
 use Rattle.service_core.proofs.loads.look.Goals as goal
 
 pub returns-in-Some-clause-told : goal.returns-in-Some-clause-told
@@ -26,6 +26,3 @@ returns-in-None-clause-told g c desk is stand clean = (
   stands c.queue_loads.ensures.kept (contents_of (due_of_row c.args.call.settings.now desk) desk)
       stand,
 )
-
-pub returns-in-None-clause-named : goal.returns-in-None-clause-named
-returns-in-None-clause-named g c = named_by c.queue_loads.result c.queue_loads.ensures.fault

@@ -19,9 +19,6 @@ returns-in-None-clause-step g c = c.step.ensures.step
 pub returns-in-None-clause-refused : goal.returns-in-None-clause-refused
 returns-in-None-clause-refused g c = c.step.ensures.refused
 
-pub returns-in-None-clause-named : goal.returns-in-None-clause-named
-returns-in-None-clause-named g c = c.step.ensures.named
-
 pub returns-in-None-clause-left : goal.returns-in-None-clause-left
 returns-in-None-clause-left g c =
     record { same = refl; clean = c.step.ensures.keeps.clean; lasts = c.step.ensures.keeps.lasts }

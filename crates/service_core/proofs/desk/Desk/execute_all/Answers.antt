@@ -1,9 +1,8 @@
 -- each step goes on with the run
-use Rattle.std.proofs.Common.{◌≡◌, ◌<◌, ◌++◌, ◌∷◌, [], length, rules, subst, sym}
-use Rattle.desk_texts.specs.Short.{AreNamed}
+use Rattle.std.proofs.Common.{◌≡◌, ◌<◌, ◌++◌, ◌∷◌, [], length, rules}
 use Rattle.service_core.specs.Seen.{settings_of, tables_of}
 use Rattle.service_core.proofs.LeftLemmas.{left_on, left_same}
-use Rattle.service_core.proofs.Running.{all_asked, named_more, run_begins, run_on}
+use Rattle.service_core.proofs.Running.{all_asked, run_begins, run_on}
 use Rattle.service_core.proofs.desk.Desk.execute_all.Goals as goal
 
 pub loop-ask-init : goal.loop-ask-init
@@ -14,7 +13,6 @@ loop-ask-init g c =
           rw none
           (run_begins (settings_of g.S.Store c.args.self.now)
           (tables_of g.S.Store c.args.self.now));
-      named = rw none tt;
       left = left_same g.S.Store c.args.self.now;
       room = search rules;
       count = search rules;
@@ -38,9 +36,6 @@ loop-ask-preserved g c =
           (tables_of g.S.Store c.execute-outcome.new.self)
           low pushed so_far.left.same c.ask-item.is c.as_str.ensures.value so_far.run
           step.left.clean step.step;
-      named =
-          subst AreNamed (sym pushed)
-          (named_more c.loop-ask.outcomes.items c.execute-outcome.result so_far.named step.named);
       left =
           left_on g.S.Store c.args.self.now c.loop-ask.self c.execute-outcome.new.self so_far.left
           step.left;

@@ -3,7 +3,7 @@ use Rattle.std.proofs.Common.{rules}
 use Rattle.stream_core.specs.Seen.{left_in}
 use Rattle.service_core.specs.Seen.{settings_of, tables_of}
 use Rattle.wire_core.proofs.Serving.{served_counted, served_unread, taken_of}
-use Rattle.wire_core.proofs.serve.serve_one_by.Goals as goal
+use Rattle.wire_core.proofs.serve.serve_one.Goals as goal
 
 pub returns-clause-served : goal.returns-clause-served
 returns-clause-served g c =

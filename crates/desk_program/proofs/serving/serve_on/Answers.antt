@@ -2,23 +2,29 @@
 use Rattle.std.proofs.Common.{◌≡◌, ◌∙◌, ◌<◌, ◌+◌, arith, rules}
 use Rattle.service_core.proofs.LeftLemmas.{left_on, left_same}
 use Rattle.service_core.specs.Seen.{settings_of, tables_of}
-use Rattle.desk_program.specs.Listening.{accepted_of, has_accept_failed, minute_of}
+use Rattle.desk_program.specs.Listening.{accepted_of, asked_of, has_accept_failed, minute_of}
 use Rattle.desk_program.proofs.Connections.{all_and_one, all_but_one, all_ended, none_answered}
 use Rattle.desk_program.proofs.Connections.{with_failure, without_failure}
-use Rattle.desk_program.proofs.serving.serve_on_counted.Goals as goal
+use Rattle.desk_program.proofs.serving.serve_on.Goals as goal
 
 pub loop-connection-init : goal.loop-connection-init
 loop-connection-init g c =
     record {
       all = none_answered (settings_of g.S.Store c.args.desk.now) c.args.listener.now
           (tables_of g.S.Store c.args.desk.now) c.requires;
+      asked = c.requires.asked;
       accepted = c.requires.accepted;
       unfailed = c.requires.failed;
       left = left_same g.S.Store c.args.desk.now;
     }
 
-pub accept-requires : goal.accept-requires
-accept-requires g c =
+pub accept-requires-asked : goal.accept-requires-asked
+accept-requires-asked g c =
+    let low : c.loop-connection._connection < c.args.count = search rules in
+    omega (arith, low, c.loop-connection.invariant.asked)
+
+pub accept-requires-accepted : goal.accept-requires-accepted
+accept-requires-accepted g c =
     let low : c.loop-connection._connection < c.args.count = search rules in
     omega (arith, low, c.loop-connection.invariant.accepted)
 
@@ -47,6 +53,7 @@ loop-connection-preserved g c =
           (tables_of g.S.Store c.args.desk.now) (tables_of g.S.Store c.loop-connection.desk)
           (tables_of g.S.Store c.serve-passed_over.new.desk) so_far.left.same so_far.all accepts
           step.counted step.left.clean step.one;
+      asked = omega (arith, so_far.asked, accepts.asked, step.counted.asked);
       accepted = omega (arith, so_far.accepted, one, step.counted.accepted);
       unfailed = step.counted.failed ∙ accepts.failed ∙ so_far.unfailed;
       left =
@@ -64,8 +71,9 @@ returns-in-None-clause-ended g c =
     record {
       told =
           with_failure (has_accept_failed c.accept.new.self) c.args.count
-          (accepted_of c.accept.new.self) _ fails.failed
-          (omega (arith, low, so_far.accepted, none)) (search rules);
+          (asked_of c.accept.new.self) (accepted_of c.accept.new.self) _ fails.failed
+          (omega (arith, low, so_far.accepted, none))
+          (omega (arith, so_far.asked, so_far.accepted, none, fails.asked)) (search rules);
       all =
           all_but_one (settings_of g.S.Store c.args.desk.now) c.loop-connection.listener
           c.accept.new.self (tables_of g.S.Store c.args.desk.now)
@@ -79,7 +87,7 @@ returns-clause-ended g c =
     record {
       told =
           without_failure (has_accept_failed c.loop-connection.listener) c.args.count
-          (accepted_of c.loop-connection.listener) _ so_far.unfailed (so_far.accepted ∙ whole)
-          (search rules);
+          (asked_of c.loop-connection.listener) (accepted_of c.loop-connection.listener) _
+          so_far.unfailed (so_far.accepted ∙ whole) (so_far.asked ∙ whole) (search rules);
       all = so_far.all;
     }
