@@ -1,4 +1,5 @@
 mod Examples
+pub mod FirstBad
 pub mod Found
 pub mod Grants
 pub mod Placed

@@ -6,6 +6,7 @@ pub mod Parts
 pub mod People
 pub mod Placed
 pub mod Rows
+pub mod Tables
 pub mod Tokens
 pub mod Values
 pub mod Wrong

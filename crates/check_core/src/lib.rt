@@ -6,6 +6,8 @@
 #![tactic(auto)]
 
 pub mod bad_names;
+pub mod bad_rows;
+pub mod files;
 pub mod laws;
 pub mod limits;
 pub mod lines;

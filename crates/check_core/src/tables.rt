@@ -1,11 +1,14 @@
 //! What is wrong first with tables, by settings.
 
+ghost use Rattle.std.specs.Prelude.{◌≡◌, ◌≢◌, IfOk, None};
 ghost use Rattle.store_tables.specs.Calls.{Spares};
 ghost use Rattle.store_core.specs.Seen.{state_of};
+ghost use Rattle.check_core.specs.Tables.{NothingIsWrong};
 
+use crate::bad_rows::bad_table;
 use crate::rows::{Stray, stray_entry, stray_queue, stray_request, stray_watcher};
 use desk_model::RequestRow;
-use service_core::AttachFault;
+use service_core::{AttachFault, knows_tables};
 use settings_core::Settings;
 use std::alloc::{AllocError, Global};
 use store_core::{Backend, Store, StoreFault};
@@ -21,14 +24,92 @@ pub fn first_fault<S: Backend>(
     ensures kept { Spares (state_of S.Store store.old) (state_of S.Store store.new) }
 {
     match store.version() {
-        Ok(1 | 2) => match first_stray(alloc, store, settings) {
-            Ok(None) => Ok(None),
-            Ok(Some(told)) => Ok(Some(format!(in alloc; "attach: {told}")?)),
-            Err(AttachFault::NoMemory) => Err(AllocError),
-            Err(fault) => Ok(Some(format!(in alloc; "attach: {fault}")?)),
-        },
+        Ok(2) => fault_of_tables(alloc, store, settings),
+        Ok(1) => fault_of_first_tables(alloc, store, settings),
         Ok(_) => store_told(alloc, StoreFault::WrongVersion),
         Err(fault) => store_told(alloc, fault),
+    }
+}
+
+/// What is wrong first with tables of the present version, as `Desk::attach` finds it: a row that is
+/// no value of its type, or else a name that the settings don't know. Where nothing is, each row
+/// that is tested then is good, and the settings know each name. The tables stay as they are.
+#[tactic(auto, using(store_tables::proofs::Spared::joined))]
+pub fn fault_of_tables<S: Backend>(
+    alloc: Global,
+    store: &mut Store<S>,
+    settings: &Settings,
+) -> Result<Option<String>, AllocError>
+    ensures nothing { IfOk result (λ told. told ≡ None → NothingIsWrong settings.now
+        (state_of S.Store store.old) (state_of S.Store store.new)) }
+    ensures kept { Spares (state_of S.Store store.old) (state_of S.Store store.new) }
+{
+    match knows_tables(alloc, store, settings) {
+        Ok(true) => Ok(None),
+        Ok(false) => name_told(alloc, store, settings),
+        Err(fault) => row_told(alloc, store, fault),
+    }
+}
+
+/// The first name that the settings don't know, in words. The tables stay as they are.
+fn name_told<S: Backend>(
+    alloc: Global,
+    store: &mut Store<S>,
+    settings: &Settings,
+) -> Result<Option<String>, AllocError>
+    ensures told { IfOk result (λ told. told ≢ None) }
+    ensures kept { Spares (state_of S.Store store.old) (state_of S.Store store.new) }
+{
+    match first_stray(alloc, store, settings) {
+        Ok(Some(told)) => Ok(Some(format!(in alloc; "attach: {told}")?)),
+        Ok(None) => attach_told(alloc, AttachFault::UnknownName),
+        Err(fault) => attach_told(alloc, fault),
+    }
+}
+
+/// The first table that has a row that is no value of its type, in words, or else the fault. The
+/// tables stay as they are.
+fn row_told<S: Backend>(
+    alloc: Global,
+    store: &mut Store<S>,
+    fault: StoreFault,
+) -> Result<Option<String>, AllocError>
+    ensures told { IfOk result (λ told. told ≢ None) }
+    ensures kept { Spares (state_of S.Store store.old) (state_of S.Store store.new) }
+{
+    match bad_table(alloc, store) {
+        Ok(Some(table)) => {
+            let told = format!(in alloc;
+                "attach: a row of the table `{table}` is no value of its type"
+            )?;
+            Ok(Some(told))
+        }
+        _ => attach_told(alloc, AttachFault::Store(fault)),
+    }
+}
+
+/// What is wrong first with the names in tables of version 1, which have no stays yet. The tables
+/// stay as they are.
+fn fault_of_first_tables<S: Backend>(
+    alloc: Global,
+    store: &mut Store<S>,
+    settings: &Settings,
+) -> Result<Option<String>, AllocError>
+    ensures kept { Spares (state_of S.Store store.old) (state_of S.Store store.new) }
+{
+    match first_stray(alloc, store, settings) {
+        Ok(None) => Ok(None),
+        Ok(Some(told)) => Ok(Some(format!(in alloc; "attach: {told}")?)),
+        Err(fault) => attach_told(alloc, fault),
+    }
+}
+
+fn attach_told(alloc: Global, fault: AttachFault) -> Result<Option<String>, AllocError>
+    ensures told { IfOk result (λ told. told ≢ None) }
+{
+    match fault {
+        AttachFault::NoMemory => Err(AllocError),
+        _ => Ok(Some(format!(in alloc; "attach: {fault}")?)),
     }
 }
 
