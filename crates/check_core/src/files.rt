@@ -2,7 +2,8 @@
 
 use crate::tables::first_fault;
 use crate::text::settings_told;
-use settings_core::{Settings, SettingsFault};
+use settings_core::Settings;
+use settings_places::reading::read_telling;
 use sqlite::Connection;
 use std::alloc::AllocError;
 use std::fs::File;
@@ -25,7 +26,7 @@ pub fn first_finding(
     path: &str,
     text: &[u8],
 ) -> Result<Option<Finding>, AllocError> {
-    match Settings::read(rt.alloc(), text) {
+    match read_telling(rt.alloc(), text) {
         Ok(settings) => {
             if has_tables(rt, path) {
                 finding_in_tables(rt, path, &settings)
@@ -33,8 +34,7 @@ pub fn first_finding(
                 Ok(None)
             }
         }
-        Err(SettingsFault::NoMemory) => Err(AllocError),
-        Err(fault) => Ok(Some(Finding::Settings(settings_told(rt.alloc(), text, fault)?))),
+        Err(unread) => Ok(Some(Finding::Settings(settings_told(rt.alloc(), &unread)?))),
     }
 }
 
