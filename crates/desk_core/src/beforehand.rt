@@ -38,7 +38,7 @@ pub fn refused_beforehand(
 
 /// The refusal of a command's words alone, if there is one.
 fn refused_words(settings: &Settings, command: &Command) -> Option<Refusal>
-    ensures first { (at : ℕ) (caller : List ℕ) → result
+    ensures { (at : ℕ) (caller : List ℕ) → result
         ≡ first_holding (conditions_of_words (call settings.now at caller) (plan_of command.now)) }
 {
     match command {
@@ -61,7 +61,7 @@ fn refused_queue(
     lifecycle: &Text,
     level: &Option<Text>,
 ) -> Option<Refusal>
-    ensures first { (at : ℕ) (caller : List ℕ) → result ≡ first_holding (open_queue.beforehand
+    ensures { (at : ℕ) (caller : List ℕ) → result ≡ first_holding (open_queue.beforehand
         name.now lifecycle.now level.now (call settings.now at caller)) }
 {
     if !is_name(name.as_str()) {
@@ -75,7 +75,7 @@ fn refused_queue(
 
 /// The refusal of a text that isn't of its form.
 fn refused_text(is_formed: bool) -> Option<Refusal>
-    ensures first { result ≡ (if is_formed then None else Some Refusal.BadText) }
+    ensures { result ≡ (if is_formed then None else Some Refusal.BadText) }
 {
     if is_formed {
         None

@@ -97,7 +97,7 @@ fn follow_plan(
 ) -> Result<Change, Refusal>
     requires { refusal_beforehand call.settings.now call.at call.caller.now
         command.now ≡ None }
-    ensures planned { FollowsPlan call.entry.settings.now call.entry.at call.entry.caller.now
+    ensures { FollowsPlan call.entry.settings.now call.entry.at call.entry.caller.now
         facts.now command.now result }
 {
     let Some(moment) = moment_of(call.at) else {
@@ -127,7 +127,7 @@ impl<'c> Context<'c> {
     /// The decision, where a change has the stays of the request whose row it puts, and its due
     /// moment.
     fn decide_dated(&self, command: &Command) -> Result<Change, Refusal>
-        ensures decides { Decides result
+        ensures { Decides result
             (conditions_by (call_of self.now) self.now.facts.now (plan_of command.now))
             (change_of (call_of self.now) self.now.facts.now command.now) }
     {
@@ -139,7 +139,7 @@ impl<'c> Context<'c> {
 
     /// The decision, command by command.
     fn decide(&self, command: &Command) -> Result<Change, Refusal>
-        ensures decides { Decides result
+        ensures { Decides result
             (conditions_by (call_of self.now) self.now.facts.now (plan_of command.now))
             (change_by (call_of self.now) self.now.facts.now (plan_of command.now)) }
     {

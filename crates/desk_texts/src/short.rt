@@ -1,11 +1,12 @@
 //! Short answers, put after other bytes without taking memory.
-ghost use Rattle.std.specs.Prelude.{◌≡◌, ◌++◌, ◌+◌, ◌≤◌, true, length, decimal};
+ghost use Rattle.std.specs.Prelude.{◌≡◌, ◌++◌, ◌+◌, ◌≤◌, [], true, length, decimal};
 ghost use Rattle.std.specs.Vec.{vec_capacity, vec_len};
 ghost use Rattle.desk_texts.specs.Short.{is_short};
 ghost use Rattle.desk_texts.specs.Texts as text;
 
 use desk_model::{Answer, Refusal};
 use itoa::Buffer;
+use text_core::RightName;
 
 /// Room for any short answer, in bytes.
 pub const SHORT_TEXT: usize = 64;
@@ -53,25 +54,36 @@ fn put_refusal(out: &mut Vec<u8>, refusal: &Refusal)
     ensures put { out.new.items ≡ out.old.items ++ text.refusal_text refusal.now }
     ensures short { vec_len out.new ≤ vec_len out.old + 64 }
 {
+    match refusal {
+        Refusal::Denied(right) => put_denied(out, right),
+        _ => put_plain(out, refusal),
+    }
+}
+
+/// Puts that a right is lacking, with the right behind a space: 32 letters at most.
+fn put_denied(out: &mut Vec<u8>, right: &RightName)
+    requires { vec_len out.old + 64 ≤ vec_capacity out.old }
+    ensures put { out.new.items ≡ out.old.items ++ text.refusal_text (Refusal.Denied right.now) }
+    ensures short { vec_len out.new ≤ vec_len out.old + 64 }
+{
+    put(out, "refused ");
+    put_number(out, 6);
+    put(out, " Denied ");
+    put(out, right.as_str());
+    put(out, "\n");
+}
+
+/// Puts a refusal that names no right.
+fn put_plain(out: &mut Vec<u8>, refusal: &Refusal)
+    requires room { vec_len out.old + 64 ≤ vec_capacity out.old }
+    ensures put { out.new.items ≡ out.old.items ++ text.refused_text refusal.now [] }
+    ensures short { vec_len out.new ≤ vec_len out.old + 64 }
+{
     put(out, "refused ");
     put_number(out, u32::from(refusal.number()));
     put(out, " ");
     put(out, refusal.name());
-    put_right(out, refusal);
     put(out, "\n");
-}
-
-/// Puts the right that a refusal names, behind a space: 33 bytes at most.
-fn put_right(out: &mut Vec<u8>, refusal: &Refusal)
-    requires { vec_len out.old + 33 ≤ vec_capacity out.old }
-    ensures put { out.new.items ≡ out.old.items ++ text.right_text refusal.now }
-    ensures short { vec_len out.new ≤ vec_len out.old + 33 }
-    ensures room { vec_capacity out.old ≤ vec_capacity out.new }
-{
-    if let Refusal::Denied(right) = refusal {
-        put(out, " ");
-        put(out, right.as_str());
-    }
 }
 
 fn put_number(out: &mut Vec<u8>, number: u32)

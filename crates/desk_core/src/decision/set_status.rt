@@ -15,7 +15,7 @@ use text_core::Text;
 impl Context<'_> {
     /// Moves the request to another status.
     pub(super) fn set_status(&self, status: &Text) -> Result<Change, Refusal>
-        ensures decides { DecidesOn result Dependencies
+        ensures { DecidesOn result Dependencies
             (set_status.conditions status.now) (set_status.change status.now) self.now }
     {
         let request = self.shown()?;

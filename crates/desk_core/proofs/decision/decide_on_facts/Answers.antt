@@ -9,4 +9,4 @@ pub returns-clause-reads : goal.returns-clause-reads
 returns-clause-reads c =
     let asked = call c.args.settings.now c.args.at c.args.caller.now in
     reads_on c.args.command.now asked c.args.facts.now
-    (conditions_of asked c.args.facts.now (plan_of c.args.command.now)) _ c.follow_plan.ensures.planned
+    (conditions_of asked c.args.facts.now (plan_of c.args.command.now)) _ c.follow_plan.ensures

@@ -7,8 +7,8 @@ use Rattle.desk_core.specs.Decision.{FollowsPlan, change_of}
 use Rattle.desk_core.proofs.AskedFirst.{decided_after, moment_is}
 use Rattle.desk_core.proofs.decision.follow_plan.Goals as goal
 
-pub returns-clause-planned : goal.returns-clause-planned
-returns-clause-planned c =
+pub returns : goal.returns
+returns c =
     let settings = c.args.call.settings.now in
     let caller = c.args.call.caller.now in
     let facts = c.args.facts.now in
@@ -19,4 +19,4 @@ returns-clause-planned c =
     (decided_after asked facts (plan_of command) c.decide_dated.result
     (change_of asked facts command)
     (subst (λ (at : ℕ). refusal_beforehand settings at caller command ≡ None) (sym same) c.requires)
-    c.decide_dated.ensures.decides)
+    c.decide_dated.ensures)
