@@ -52,6 +52,8 @@ def heads(what, reply, kind=HTML):
     expect(f"{what}: its policy", reply.head("content-security-policy"), POLICY)
     expect(f"{what}: its referrer", reply.head("referrer-policy"), "same-origin")
     expect(f"{what}: its kind is certain", reply.head("x-content-type-options"), "nosniff")
+    expect(f"{what}: who opens it", reply.head("cross-origin-opener-policy"), "same-origin")
+    expect(f"{what}: who loads it", reply.head("cross-origin-resource-policy"), "same-origin")
     expect(f"{what}: the connection", reply.head("connection"), "close")
 
 

@@ -1,12 +1,11 @@
 -- Examples of the definitions: what a MAC is over, which number stands in a cookie, and when a
 -- session is open.
-use Rattle.std.specs.Prelude.{◌≡◌, refl, true, false, codes, Some, None}
+use Rattle.std.specs.Prelude.{◌≡◌, refl, true, false, [], ◌∷◌, length, codes, Some, None}
 use Rattle.std.specs.Fmt.{digits}
 use Rattle.session_core.specs.Hmac.{filled, padded}
 use Rattle.session_core.specs.Seal.{ends_in, named, number_behind, signed}
 use Rattle.session_core.specs.Sessions.{is_open, is_open_to, minutes_of}
 use Rattle.session_core.specs.declared.session.Lasts.TheVariants.{Day, Month}
-use Rattle.std.specs.Prelude.{[], ◌∷◌, length}
 
 -- Hmac.antt
 
@@ -58,8 +57,8 @@ thirty_days = refl
 last_minute : is_open 1719 1720 ≡ true
 last_minute = refl
 
-end : is_open 1720 1720 ≡ false
-end = refl
+minute_of_its_end : is_open 1720 1720 ≡ false
+minute_of_its_end = refl
 
 longest_session : is_open 1000 44200 ≡ true
 longest_session = refl

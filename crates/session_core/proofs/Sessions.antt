@@ -1,6 +1,6 @@
 -- For whom a cookie stands.
 use Rattle.std.proofs.Common.{◌≡◌, ◌∙◌, ℕ, ◌+◌, ◌^◌, ◌<◌, ◌≤◌, Bool, true, false, ◌⊎◌, inl, inr, if◌then◌else◌}
-use Rattle.std.proofs.Common.{List, [], ◌∷◌, Option, Some, None, nat_le, nat_lt, find}
+use Rattle.std.proofs.Common.{cond, List, [], ◌∷◌, Option, Some, None, nat_le, nat_lt, find}
 use Rattle.std.proofs.Common.{option_map, refl, sym, ap, arith}
 use Rattle.std.specs.List.{Contains}
 use Rattle.std.proofs.lemmas.Bool.{and_from, and_parts, cases_Bool, leb-true, le-leb, lt-ltb, ltb-true, true≢false}
@@ -40,19 +40,22 @@ one_of x xs y h =
       | inr later ↦ inr later
     ]
 
+picked : {X : Type 0} (b : Bool) (y x : X) (rest : Option X) → cond b (Some y) rest ≡ Some x
+    → ((b ≡ true) × (y ≡ x)) ⊎ (rest ≡ Some x)
+picked true y x rest h = inl (refl, same_Some y x h)
+picked false y x rest h = inr h
+
 -- what is found is of the list, and passes
 found_is : {X : Type 0} (p : X → Bool) (xs : List X) (x : X) → find p xs ≡ Some x
     → Contains xs x × (p x ≡ true)
 found_is p [] x h = absurd (none-some x h)
 found_is p (y ∷ ys) x h =
-    elim (cases_Bool (p y)) [
-      | inl yes ↦
-          let same : y ≡ x = same_Some y x (rw yes at h) in (
-            rw same at (Contains-append_left (y ∷ []) ys y (Contains-push [] y)),
-            rw same at yes,
-          )
-      | inr no ↦
-          let later : find p ys ≡ Some x = rw no at h in
+    elim (picked (p y) y x (find p ys) h) [
+      | inl first ↦ (
+        rw first.1 at (Contains-append_left (y ∷ []) ys y (Contains-push [] y)),
+        ap p (sym first.1) ∙ first.0,
+      )
+      | inr later ↦
           let ih = found_is p ys x later in
           (Contains-append_right (y ∷ []) ys x ih.0, ih.1)
     ]

@@ -1,6 +1,6 @@
 //! Cookies that say who is signed in, and until when.
 
-ghost use Rattle.std.specs.Prelude.{◌≡◌, IfOk};
+ghost use Rattle.std.specs.Prelude.{◌≡◌, ◌≤◌, IfOk};
 ghost use Rattle.std.specs.Option.{option_map};
 ghost use Rattle.session_core.specs.Sessions as spec;
 
@@ -23,7 +23,8 @@ pub enum Lasts {
 impl Lasts {
     /// The minutes.
     fn minutes(self) -> u32
-        ensures { result ≡ spec.minutes_of self }
+        ensures is { result ≡ spec.minutes_of self }
+        ensures few { result ≤ 43200 }
     {
         match self {
             Lasts::Day => 720,
