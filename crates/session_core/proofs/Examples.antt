@@ -2,6 +2,8 @@
 -- session is open.
 use Rattle.std.specs.Prelude.{◌≡◌, refl, true, false, [], ◌∷◌, length, codes, Some, None}
 use Rattle.std.specs.Fmt.{digits}
+use Rattle.std.specs.Str.{chars, is_utf8}
+use lib.Utf8.{encode}
 use Rattle.session_core.specs.Hmac.{filled, padded}
 use Rattle.session_core.specs.Seal.{ends_in, named, number_behind, signed}
 use Rattle.session_core.specs.Sessions.{is_open, is_open_to, minutes_of}
@@ -26,6 +28,7 @@ unfolding digits
 what_the_mac_is_over = refl
 
 end_behind_the_person : ends_in (codes "ann") (codes "ann.29000000.0a") ≡ Some 29000000
+unfolding is_utf8 chars encode
 end_behind_the_person = refl
 
 end_behind_another_person : ends_in (codes "bob") (codes "ann.29000000.0a") ≡ None
@@ -35,15 +38,18 @@ end_of_one_whose_name_is_longer : ends_in (codes "an") (codes "ann.29000000.0a")
 end_of_one_whose_name_is_longer = refl
 
 no_number : number_behind (codes ".a.0a") ≡ None
+unfolding is_utf8 chars encode
 no_number = refl
 
 number_up_to_the_end : number_behind (codes ".7") ≡ Some 7
+unfolding is_utf8 chars encode
 number_up_to_the_end = refl
 
 no_stop_before_it : number_behind (codes "7.0a") ≡ None
 no_stop_before_it = refl
 
 number_of_33_bits : number_behind (codes ".4294967296.0a") ≡ None
+unfolding is_utf8 chars encode
 number_of_33_bits = refl
 
 -- Sessions.antt

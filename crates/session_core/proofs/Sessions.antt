@@ -66,10 +66,10 @@ is_found : {X : Type 0} (p : X → Bool) (xs : List X) (x : X) → Contains xs x
 is_found p [] x has passes = absurd (omega (arith, has.1))
 is_found p (y ∷ ys) x has passes =
     elim (cases_Bool (p y)) [
-      | inl yes ↦ (y, rw yes refl)
-      | inr no ↦ elim (one_of y ys x has) [
-        | inl same ↦ absurd (true≢false (sym passes ∙ ap p (sym same) ∙ no))
-        | inr later ↦ let ih = is_found p ys x later passes in (ih.0, rw no ih.1)
+      | inl first ↦ (y, rw first refl)
+      | inr other ↦ elim (one_of y ys x has) [
+        | inl same ↦ absurd (true≢false (sym passes ∙ ap p (sym same) ∙ other))
+        | inr later ↦ let ih = is_found p ys x later passes in (ih.0, rw other ih.1)
       ]
     ]
 
