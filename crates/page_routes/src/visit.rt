@@ -97,8 +97,8 @@ pub enum Visit {
     },
 }
 
-/// What a message asks of the pages at a minute since 1970-01-01 00:00 UTC, as the lines of its head
-/// say.
+/// What a message asks of the pages at a minute since 1970-01-01 00:00 UTC, as the lines of its
+/// head say.
 ///
 /// `NoRoute` where its path is no place, `BadMethod` where the place doesn't have its method,
 /// `OtherSite` where a post comes from another site, and `BadBody` where a body isn't what the form
@@ -131,7 +131,8 @@ fn visited(
     place: Place,
 ) -> Result<Visit, PageFault>
     ensures ok { (h : RequestHead) → StartsWith request.now.head h [] → IfOk result (λ visit.
-        visits.visited_at settings.now at request.now.message (values_in h) (Some place) ≡ Ok visit) }
+        visits.visited_at settings.now at request.now.message (values_in h) (Some place)
+        ≡ Ok visit) }
     ensures err { (h : RequestHead) → StartsWith request.now.head h [] → IfErr result (λ fault.
         fault ≢ PageFault.NoMemory → visits.visited_at settings.now at request.now.message
         (values_in h) (Some place) ≡ Err fault) }
@@ -211,7 +212,7 @@ fn searcher(
 fn is_search(page: &Page) -> bool
     ensures { result ≡ visits.is_search page.now }
 {
-    matches!(page, Page::Find(..))
+    matches!(page, Page::Find { .. })
 }
 
 fn looked(page: Page, caller: Option<Text>) -> Visit

@@ -3,8 +3,8 @@
 ghost use Rattle.std.specs.Prelude.{◌≡◌};
 ghost use Rattle.std.specs.Str.{bytes_eq};
 
-/// Whether the bytes are the same. Each byte is looked at, whatever the others are: only the lengths
-/// decide how many are.
+/// Whether the bytes are the same. Each byte is looked at, whatever the others are: only the
+/// lengths decide how many are.
 pub fn are_same(one: &[u8], other: &[u8]) -> bool
     ensures { result ≡ bytes_eq one.now other.now }
 {

@@ -15,8 +15,8 @@ pub fn read_back_law()
     ensures { laws.SessionsAreReadBack }
 {}
 
-/// Under settings without its token a cookie is nobody's, but where another token of the same person
-/// makes the same MAC.
+/// Under settings without its token a cookie is nobody's, but where another token of the same
+/// person makes the same MAC.
 pub fn token_law()
     ensures { laws.CookiesNeedTheirToken }
 {}

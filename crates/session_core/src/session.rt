@@ -105,8 +105,8 @@ fn seals(alloc: Global, token: &Token, cookie: &str, now: u32) -> Result<bool, A
     }
 }
 
-/// Whether a session that ends then is open now: it hasn't ended, and ends no later than one that is
-/// made now.
+/// Whether a session that ends then is open now: it hasn't ended, and ends no later than one that
+/// is made now.
 fn is_open(now: u32, ends: u32) -> bool
     ensures { result ≡ spec.is_open now ends }
 {

@@ -40,7 +40,8 @@ fn noted(
     read: &Result<Request, WireFault>,
     reply: &[u8],
 ) -> Result<Vec<u8>, AllocError>
-    ensures { IfOk result (λ note. NotesRead proxied settings.now at read.now reply.now note.items) }
+    ensures { IfOk result (λ note. NotesRead proxied settings.now at read.now reply.now
+        note.items) }
 {
     match read {
         Ok(request) => note_in(alloc, proxied, settings, at, request, reply),

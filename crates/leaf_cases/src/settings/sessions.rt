@@ -43,6 +43,10 @@ fn session(
     let Some(moment) = Minute::new(words.next().parse().unwrap_or(0)) else {
         return Ok(None);
     };
-    let lasts = if words.rest == "month" { Lasts::Month } else { Lasts::Day };
+    let lasts = if words.rest == "month" {
+        Lasts::Month
+    } else {
+        Lasts::Day
+    };
     signed_in(alloc, settings, token, moment, lasts)
 }
