@@ -10,5 +10,5 @@ returns c bytes =
     let same = c.to_bytes-text.ensures in
     let long : length (date_text c.args.date) ≡ 29 = ap length (sym same) ∙ omega arith in
     back (date_text c.args.date) bytes long
-    (ap is_date (sym same) ∙ sym c.is_date-_is_date.ensures.is
-    ∙ c.is_date-_is_date.ensures.of_all c.args.date same)
+    (ap is_date (sym same) ∙ sym c.is_date-is_date.ensures.is
+    ∙ c.is_date-is_date.ensures.of_all c.args.date same)
