@@ -1,8 +1,8 @@
 """Where the fault of a settings text stands, by docs/settings.md: the first place that has it, as
-`desk_load --check` names it."""
+`desk_load --check` names it, and what of the text is told there."""
 import re
 import tomllib
-from datetime import date
+from datetime import date, datetime, time
 
 INTEGER, BOOLEAN, PAIR, ANY = "integer", "boolean", "pair", "any"
 NAME, TO, MOVE, DAY, INTERVAL = "name", "to", "move", "day", "interval"
@@ -124,10 +124,12 @@ def own_key(fault, form, table):
 
 
 def formed(fault, form, table, around="", key="", number=0):
-    """The first key that has the fault, and its table: a table before those inside it."""
+    """The first key that has the fault, told with its table, a table before those inside it; and the table's
+    form, the table and the key."""
     found = own_key(fault, form, table)
     if found is not None:
-        return f"the key `{found}` of {form.named.format(around=around, key=key, number=number)}"
+        named = form.named.format(around=around, key=key, number=number)
+        return f"the key `{found}` of {named}", form, table, found
     for inner in in_order(table):
         kind, value = form.kind_of(inner), table[inner]
         if isinstance(kind, Table) and isinstance(value, dict):
@@ -287,5 +289,82 @@ def place_of(text, line):
         return None
     table = tomllib.loads(text)
     if fault in ("UnknownKey", "Missing", "WrongKind"):
-        return formed(fault, TOP, table)
+        return formed(fault, TOP, table)[0]
     return PLACES[fault](table)
+
+
+# ---- what of the text is told there
+
+def single(value):
+    """A value as it is typed, of which nothing inside a list or a table is told."""
+    if isinstance(value, str):
+        return f'"{value[:60]}.."' if len(value) > 60 else f'"{value}"'
+    if isinstance(value, bool):
+        return "true" if value else "false"
+    kinds = ((int, str(value)), (float, "a number with a point"), ((date, datetime, time), "a date without quotes"),
+             (list, "a list"), (dict, "a table"))
+    return next(told for kind, told in kinds if isinstance(value, kind))
+
+
+def typed(value):
+    if not isinstance(value, list):
+        return single(value)
+    return f"[{', '.join([*map(single, value[:4]), *(['..'] if len(value) > 4 else [])])}]"
+
+
+def told_of_kind(table):
+    """The value of another kind, or the first of a list that is none of its items."""
+    _, form, inner, key = formed("WrongKind", TOP, table)
+    kind, value = form.kind_of(key), inner[key]
+    if form.free and not has_form(form.free[0], key) or is_kind(kind, value):
+        return None
+    if isinstance(kind, tuple) and isinstance(value, list):
+        value = next(it for it in value if not is_kind(kind[1], it))
+    return f": {typed(value)} is not "
+
+
+def told_of_interval(table):
+    """The first interval of the first calendar with a fault that is out of order, and its day."""
+    calendar = next(table["calendar"][name] for name in in_order(table["calendar"])
+                    if bad_hours(table["calendar"][name]))
+    for day in DAYS:
+        earliest = 0
+        for number, interval in enumerate(calendar.get(day, []), 1):
+            begun, until = map(minutes_of, interval.split("-"))
+            if number > 4 or until <= begun or begun < earliest:
+                return f": interval {number} of `{day}`, \"{interval}\": "
+            earliest = until
+    return None
+
+
+def told_twice(table):
+    """The two places of a name that stands twice."""
+    persons = table.get("persons", [])
+    for number, name in enumerate(persons, 1):
+        if name in persons[:number - 1]:
+            return f": it is name {persons.index(name) + 1} and name {number} of `persons`"
+    number = next(number for number, name in enumerate(persons, 1) if name in table["groups"])
+    return f": it is name {number} of `persons`, and a group "
+
+
+def told_of_limit(table):
+    """The minutes of a limit, or both its units; or the count."""
+    level = re.fullmatch(r"the limit `(.*)` of \[level\.(.*)\]", bad_limit(table))
+    if level:
+        limit = table["level"][level[2]][level[1]]
+        told = [f"{minutes} `{unit}`; " for unit, minutes in limit.items()]
+        return ": it has `real_minutes` and `business_minutes`" if len(told) > 1 else f": {told[0]}"
+    key = re.fullmatch("the key `(.*)` of the text", bad_limit(table))[1]
+    return f": {table[key]}; "
+
+
+TOLD = {"WrongKind": told_of_kind, "BadInterval": told_of_interval, "Repeated": told_twice,
+        "BadLimit": told_of_limit}
+
+
+def told_of(text, line):
+    """What of the text is told beside the place of the fault that the line tells; None where nothing is."""
+    words = line.split(" ")
+    fault = words[3] if words[1] in ("Hours", "Rights") else words[1]
+    return TOLD[fault](tomllib.loads(text)) if fault in TOLD else None
+

@@ -1,5 +1,1 @@
-mod Examples
-pub mod Found
-pub mod Grants
-pub mod Placed
-pub mod TextTables
+pub mod FirstBad

@@ -1,11 +1,2 @@
-pub mod BadNames
-pub mod Limits
-pub mod Lines
-pub mod Names
-pub mod Parts
-pub mod People
-pub mod Placed
 pub mod Rows
-pub mod Tokens
-pub mod Values
-pub mod Wrong
+pub mod Tables

@@ -14,7 +14,7 @@ use Rattle.desk_model.specs.declared.rows.WatchRole.TheVariants as role
 use Rattle.desk_model.specs.declared.rows.Watcher.{Watcher}
 use Rattle.check_core.specs.declared.rows.Row.{Row as RowInCode}
 use Rattle.check_core.specs.declared.rows.Row.TheVariants as row
-use Rattle.check_core.specs.declared.rows.Stray.{Stray as StrayInCode}
+use Rattle.check_core.specs.declared.rows.Unknown.{Unknown as UnknownInCode}
 use Rattle.check_core.specs.declared.rows.What.{What}
 use Rattle.check_core.specs.declared.rows.What.TheVariants as what
 
@@ -24,35 +24,35 @@ pub data Row : Type 0 where
   in_entry : ℕ → ℕ → Row
 
 -- where a name stands, what it is, and the name
-pub record Stray : Type 0 where
+pub record Unknown : Type 0 where
   pub row : Row
   pub what : What
   pub name : List ℕ
 
-abbrev pub stray : Row → What → List ℕ → Stray
-stray row what name = record { row = row; what = what; name = name }
+abbrev pub unknown : Row → What → List ℕ → Unknown
+unknown row what name = record { row = row; what = what; name = name }
 
-abbrev pub stray_level : Settings → Option (List ℕ) → Option (What × List ℕ)
-stray_level s None = None
-stray_level s (Some level) =
+abbrev pub unknown_level : Settings → Option (List ℕ) → Option (What × List ℕ)
+unknown_level s None = None
+unknown_level s (Some level) =
     if is_some (level_named s level) then None else Some (what.Level, level)
 
-abbrev pub stray_owner : Settings → Option (List ℕ) → Option (What × List ℕ)
-stray_owner s None = None
-stray_owner s (Some owner) = if knows s owner then None else Some (what.Owner, owner)
+abbrev pub unknown_owner : Settings → Option (List ℕ) → Option (What × List ℕ)
+unknown_owner s None = None
+unknown_owner s (Some owner) = if knows s owner then None else Some (what.Owner, owner)
 
 -- the lifecycle of a queue, or else its level
-abbrev pub stray_of_queue : Settings → QueueRow → Option (What × List ℕ)
-stray_of_queue s queue =
-    if is_some (lifecycle_named s queue.lifecycle) then stray_level s queue.level
+abbrev pub unknown_of_queue : Settings → QueueRow → Option (What × List ℕ)
+unknown_of_queue s queue =
+    if is_some (lifecycle_named s queue.lifecycle) then unknown_level s queue.level
     else Some (what.Lifecycle, queue.lifecycle)
 
-abbrev pub stray_queue : Settings → List QueueRow → Option Stray
-stray_queue s [] = None
-stray_queue s (q ∷ qs) =
+abbrev pub unknown_queue : Settings → List QueueRow → Option Unknown
+unknown_queue s [] = None
+unknown_queue s (q ∷ qs) =
     option_or
-    (option_map (λ found. stray (in_queue q.name) found.0 found.1) (stray_of_queue s q))
-    (stray_queue s qs)
+    (option_map (λ found. unknown (in_queue q.name) found.0 found.1) (unknown_of_queue s q))
+    (unknown_queue s qs)
 
 -- a desk of these queues alone
 abbrev pub of_queues : List QueueRow → Desk
@@ -62,35 +62,35 @@ abbrev pub knows_status : Settings → List QueueRow → RequestRow → Bool
 knows_status s queues request = known.knows_status s (of_queues queues) request
 
 -- the status of a request, or else its level, or else its owner
-abbrev pub stray_of_request : Settings → List QueueRow → RequestRow → Option (What × List ℕ)
-stray_of_request s queues request =
+abbrev pub unknown_of_request : Settings → List QueueRow → RequestRow → Option (What × List ℕ)
+unknown_of_request s queues request =
     if knows_status s queues request
-    then option_or (stray_level s request.level) (stray_owner s request.owner)
+    then option_or (unknown_level s request.level) (unknown_owner s request.owner)
     else Some (what.Status, request.status)
 
-abbrev pub stray_request : Settings → List QueueRow → List RequestRow → Option Stray
-stray_request s queues [] = None
-stray_request s queues (r ∷ rs) =
+abbrev pub unknown_request : Settings → List QueueRow → List RequestRow → Option Unknown
+unknown_request s queues [] = None
+unknown_request s queues (r ∷ rs) =
     option_or
-    (option_map (λ found. stray (in_request r.id) found.0 found.1) (stray_of_request s queues r))
-    (stray_request s queues rs)
+    (option_map (λ found. unknown (in_request r.id) found.0 found.1) (unknown_of_request s queues r))
+    (unknown_request s queues rs)
 
 abbrev pub what_of : WatchRole → What
 what_of role.Requestor = what.Requestor
 what_of role.Cc = what.Cc
 what_of role.AdminCc = what.AdminCc
 
-abbrev pub stray_watcher : Settings → List Watcher → Option Stray
-stray_watcher s [] = None
-stray_watcher s (w ∷ ws) =
-    if knows s w.person then stray_watcher s ws
-    else Some (stray (in_request w.id) (what_of w.role) w.person)
+abbrev pub unknown_watcher : Settings → List Watcher → Option Unknown
+unknown_watcher s [] = None
+unknown_watcher s (w ∷ ws) =
+    if knows s w.person then unknown_watcher s ws
+    else Some (unknown (in_request w.id) (what_of w.role) w.person)
 
-abbrev pub stray_entry : Settings → List Entry → Option Stray
-stray_entry s [] = None
-stray_entry s (e ∷ es) =
-    if knows s e.actor then stray_entry s es
-    else Some (stray (in_entry e.id e.number) what.Actor e.actor)
+abbrev pub unknown_entry : Settings → List Entry → Option Unknown
+unknown_entry s [] = None
+unknown_entry s (e ∷ es) =
+    if knows s e.actor then unknown_entry s es
+    else Some (unknown (in_entry e.id e.number) what.Actor e.actor)
 
 -- ---- as the code holds them
 
@@ -99,5 +99,5 @@ seen_row (row.Queue name) = in_queue name.now
 seen_row (row.Request id) = in_request id
 seen_row (row.Entry id number) = in_entry id number
 
-abbrev pub seen : StrayInCode → Stray
-seen found = stray (seen_row found.row) found.what found.name.now
+abbrev pub seen : UnknownInCode → Unknown
+seen found = unknown (seen_row found.row) found.what found.name.now

@@ -1,23 +1,17 @@
-//! Where a fault of settings stands: the key or the name that has it, and the table that it stands
-//! in; and which name of the tables of a desk the settings don't know.
-//!
-//! `settings_core` tells which fault a text has. What is found here is the first that has it, by
-//! the order of keys, and of the rows of a list.
+//! What is wrong with settings and the tables of a desk, in words for people: where a fault of the
+//! settings stands, and what belongs there; the first table that has a bad row; or the first name in
+//! the tables that the settings don't know.
 #![tactic(auto)]
 
-pub mod bad_names;
-pub mod laws;
-pub mod limits;
-pub mod lines;
-pub mod names;
-pub mod parts;
-pub mod people;
+mod amounts;
+mod bad_key;
+pub mod bad_rows;
+mod day;
+pub mod files;
+mod inside;
 mod row_words;
 pub mod rows;
 pub mod tables;
 pub mod text;
-pub mod tokens;
-mod told;
-mod values;
-pub mod why;
-pub mod wrong;
+mod typed;
+mod why;

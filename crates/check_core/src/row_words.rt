@@ -1,6 +1,6 @@
 //! A name of the tables that settings don't know, in words for people.
 
-use crate::rows::{Row, Stray, What};
+use crate::rows::{Row, Unknown, What};
 use std::fmt;
 
 impl fmt::Display for What {
@@ -28,9 +28,9 @@ impl fmt::Display for Row<'_> {
     }
 }
 
-impl fmt::Display for Stray<'_> {
+impl fmt::Display for Unknown<'_> {
     fn fmt<W: fmt::Write>(&self, f: &mut fmt::Formatter<W>) -> fmt::Result {
-        let Stray { row, what, name } = *self;
+        let Unknown { row, what, name } = *self;
         write!(f, "{row}: the settings don't know the {what} `{name}`")
     }
 }

@@ -38,38 +38,38 @@ pub enum What {
 
 /// A name that settings don't know: where it stands, what it is, and the name.
 #[derive(Clone, Copy)]
-pub struct Stray<'r> {
+pub struct Unknown<'r> {
     pub row: Row<'r>,
     pub what: What,
     pub name: &'r str,
 }
 
 /// The first queue whose lifecycle or level the settings don't know, and that name.
-pub fn stray_queue<'r>(settings: &Settings, queues: &'r [QueueRow]) -> Option<Stray<'r>>
-    ensures { option_map spec.seen result ≡ spec.stray_queue settings.now queues.now }
+pub fn unknown_queue<'r>(settings: &Settings, queues: &'r [QueueRow]) -> Option<Unknown<'r>>
+    ensures { option_map spec.seen result ≡ spec.unknown_queue settings.now queues.now }
 {
     for queue in queues {
-        if let Some((what, name)) = stray_of_queue(settings, queue) {
+        if let Some((what, name)) = unknown_of_queue(settings, queue) {
             let row = Row::Queue(queue.name.as_str());
-            return Some(Stray { row, what, name });
+            return Some(Unknown { row, what, name });
         }
     }
     None
 }
 
 /// The lifecycle of a queue, or else its level, where the settings don't know it.
-fn stray_of_queue<'r>(settings: &Settings, queue: &'r QueueRow) -> Option<(What, &'r str)>
+fn unknown_of_queue<'r>(settings: &Settings, queue: &'r QueueRow) -> Option<(What, &'r str)>
     ensures { option_map (λ f. (f.0, f.1.now)) result
-        ≡ spec.stray_of_queue settings.now queue.now }
+        ≡ spec.unknown_of_queue settings.now queue.now }
 {
     if settings.lifecycle(queue.lifecycle.as_str()).is_none() {
         return Some((What::Lifecycle, queue.lifecycle.as_str()));
     }
-    stray_level(settings, &queue.level)
+    unknown_level(settings, &queue.level)
 }
 
-fn stray_level<'r>(settings: &Settings, level: &'r Option<Text>) -> Option<(What, &'r str)>
-    ensures { option_map (λ f. (f.0, f.1.now)) result ≡ spec.stray_level settings.now level.now }
+fn unknown_level<'r>(settings: &Settings, level: &'r Option<Text>) -> Option<(What, &'r str)>
+    ensures { option_map (λ f. (f.0, f.1.now)) result ≡ spec.unknown_level settings.now level.now }
 {
     match level {
         Some(level) => {
@@ -85,38 +85,38 @@ fn stray_level<'r>(settings: &Settings, level: &'r Option<Text>) -> Option<(What
 
 /// The first request whose status isn't one of the lifecycle of its queue, among these, or whose
 /// level or owner the settings don't know, and that name.
-pub fn stray_request<'r>(
+pub fn unknown_request<'r>(
     settings: &Settings,
     queues: &[QueueRow],
     requests: &'r [RequestRow],
-) -> Option<Stray<'r>>
+) -> Option<Unknown<'r>>
     ensures { option_map spec.seen result
-        ≡ spec.stray_request settings.now queues.now requests.now }
+        ≡ spec.unknown_request settings.now queues.now requests.now }
 {
     for request in requests {
-        if let Some((what, name)) = stray_of_request(settings, queues, request) {
+        if let Some((what, name)) = unknown_of_request(settings, queues, request) {
             let row = Row::Request(request.id);
-            return Some(Stray { row, what, name });
+            return Some(Unknown { row, what, name });
         }
     }
     None
 }
 
 /// The status of a request, or else its level, or else its owner, where it isn't known.
-fn stray_of_request<'r>(
+fn unknown_of_request<'r>(
     settings: &Settings,
     queues: &[QueueRow],
     request: &'r RequestRow,
 ) -> Option<(What, &'r str)>
     ensures { option_map (λ f. (f.0, f.1.now)) result
-        ≡ spec.stray_of_request settings.now queues.now request.now }
+        ≡ spec.unknown_of_request settings.now queues.now request.now }
 {
     if !knows_status(settings, queues, request) {
         return Some((What::Status, request.status.as_str()));
     }
-    match stray_level(settings, &request.level) {
+    match unknown_level(settings, &request.level) {
         Some(found) => Some(found),
-        None => stray_owner(settings, &request.owner),
+        None => unknown_owner(settings, &request.owner),
     }
 }
 
@@ -149,8 +149,8 @@ fn has_status(settings: &Settings, queue: &QueueRow, status: &Text) -> bool
     }
 }
 
-fn stray_owner<'r>(settings: &Settings, owner: &'r Option<Text>) -> Option<(What, &'r str)>
-    ensures { option_map (λ f. (f.0, f.1.now)) result ≡ spec.stray_owner settings.now owner.now }
+fn unknown_owner<'r>(settings: &Settings, owner: &'r Option<Text>) -> Option<(What, &'r str)>
+    ensures { option_map (λ f. (f.0, f.1.now)) result ≡ spec.unknown_owner settings.now owner.now }
 {
     match owner {
         Some(owner) => {
@@ -165,12 +165,12 @@ fn stray_owner<'r>(settings: &Settings, owner: &'r Option<Text>) -> Option<(What
 }
 
 /// The first watcher whom the settings don't know.
-pub fn stray_watcher<'r>(settings: &Settings, watchers: &'r [Watcher]) -> Option<Stray<'r>>
-    ensures { option_map spec.seen result ≡ spec.stray_watcher settings.now watchers.now }
+pub fn unknown_watcher<'r>(settings: &Settings, watchers: &'r [Watcher]) -> Option<Unknown<'r>>
+    ensures { option_map spec.seen result ≡ spec.unknown_watcher settings.now watchers.now }
 {
     for watcher in watchers {
         if !settings.people().knows(watcher.person.as_str()) {
-            return Some(Stray {
+            return Some(Unknown {
                 row: Row::Request(watcher.id),
                 what: what_of(watcher.role),
                 name: watcher.person.as_str(),
@@ -191,12 +191,12 @@ fn what_of(role: WatchRole) -> What
 }
 
 /// The first entry that somebody made whom the settings don't know.
-pub fn stray_entry<'r>(settings: &Settings, entries: &'r [Entry]) -> Option<Stray<'r>>
-    ensures { option_map spec.seen result ≡ spec.stray_entry settings.now entries.now }
+pub fn unknown_entry<'r>(settings: &Settings, entries: &'r [Entry]) -> Option<Unknown<'r>>
+    ensures { option_map spec.seen result ≡ spec.unknown_entry settings.now entries.now }
 {
     for entry in entries {
         if !settings.people().knows(entry.actor.as_str()) {
-            return Some(Stray {
+            return Some(Unknown {
                 row: Row::Entry(entry.id, entry.number),
                 what: What::Actor,
                 name: entry.actor.as_str(),

@@ -1,29 +1,59 @@
 //! A fault of a settings text, in words for people.
 
-use crate::lines::line_at;
+use crate::day::{BadInterval, bad_interval};
+use crate::inside::named;
 use crate::why::Told;
-use crate::wrong::wrong_in;
+use hours_core::HoursFault;
 use settings_core::SettingsFault;
+use settings_places::place::FaultPlace;
+use settings_places::reading::{PlacedFault, TomlFault, Unread};
 use std::alloc::{AllocError, Global};
+use toml::Table;
 
-/// The fault of a settings text: where it stands first, and what is wrong there.
-pub fn settings_told(
-    alloc: Global,
-    text: &[u8],
-    fault: SettingsFault,
-) -> Result<String, AllocError> {
-    match toml::table_from_slice(alloc, text) {
-        Ok(table) => match wrong_in(alloc, &table, fault)? {
-            Some(wrong) => format!(in alloc; "settings: {}", Told { wrong, fault }),
-            None => format!(in alloc; "settings: {fault}"),
-        },
-        Err(error) => {
-            let Some(span) = error.span() else {
-                return Err(AllocError);
+/// Why a text states no settings: where the fault stands first, and what is wrong there.
+pub fn settings_told(alloc: Global, unread: &Unread) -> Result<String, AllocError> {
+    match unread {
+        Unread::NotToml(fault) => toml_told(alloc, *fault),
+        Unread::Fault(fault) => fault_told(alloc, fault),
+        Unread::NoMemory => Err(AllocError),
+    }
+}
+
+fn toml_told(alloc: Global, fault: TomlFault) -> Result<String, AllocError> {
+    let line = fault.at.line;
+    let column = fault.at.column;
+    let why = fault.error.message();
+    format!(in alloc; "settings: line {line}, column {column}: {why}")
+}
+
+fn fault_told(alloc: Global, placed: &PlacedFault) -> Result<String, AllocError> {
+    let fault = placed.fault;
+    let table = &placed.table;
+    match placed.place(alloc)? {
+        Some(place) => {
+            let interval = interval_at(table, fault, place);
+            let told = Told {
+                place,
+                fault,
+                table,
+                interval,
             };
-            let line = line_at(text, span.start);
-            let why = error.message();
-            format!(in alloc; "settings: line {line}: {why}")
+            format!(in alloc; "settings: {told}")
         }
+        None => format!(in alloc; "settings: {fault}"),
+    }
+}
+
+/// The first interval of a calendar that isn't in order, where that is its fault.
+fn interval_at<'t>(
+    table: &'t Table,
+    fault: SettingsFault,
+    place: FaultPlace<'t>,
+) -> Option<BadInterval<'t>> {
+    match (fault, place) {
+        (SettingsFault::Hours(HoursFault::BadInterval), FaultPlace::Calendar(name)) => bad_interval(
+            named(table, "calendar", name)?,
+        ),
+        _ => None,
     }
 }

@@ -1,52 +1,106 @@
 //! What is wrong where a fault of settings stands, in a sentence for people.
 
-use crate::wrong::Wrong;
+use crate::amounts::{CountFault, LimitFault};
+use crate::day::BadInterval;
+use crate::inside::{number_of, value_of};
+use crate::typed::{Typed, misfit};
 use settings_core::SettingsFault;
 use settings_form::form::{Item, Keys, Kind, Place, TextForm, keys_at, kind_of};
+use settings_form::text_forms::has_form;
 use settings_form::walk::KeyAt;
+use settings_parts::values::array_at;
+use settings_places::place::FaultPlace;
 use std::fmt;
+use toml::{Table, Value};
 
-/// A fault of settings and its place. It is told by both, as ``the person `Ann`: a name is ..``.
+/// A fault of settings and its place in their table. It is told by both, as ``the person `Ann`: a
+/// name is ..``.
 #[derive(Clone, Copy)]
 pub struct Told<'t> {
-    pub wrong: Wrong<'t>,
+    pub place: FaultPlace<'t>,
     pub fault: SettingsFault,
+    pub table: &'t Table,
+    /// The interval of a calendar that isn't in order, where that is the fault.
+    pub interval: Option<BadInterval<'t>>,
 }
 
 impl fmt::Display for Told<'_> {
     fn fmt<W: fmt::Write>(&self, f: &mut fmt::Formatter<W>) -> fmt::Result {
-        let Told { wrong, fault } = *self;
-        match wrong {
-            Wrong::Key(found) => write!(f, "{wrong}: {}", KeyFault { found, fault }),
-            Wrong::Calendar(_) | Wrong::Lifecycle(_) | Wrong::People => write!(
+        let Told {
+            place,
+            fault,
+            table,
+            interval,
+        } = *self;
+        write!(f, "{place}: ")?;
+        match place {
+            FaultPlace::Key(found) => write!(
                 f,
-                "{wrong}: {}",
-                Inner { fault }
+                "{}",
+                KeyFault {
+                    found,
+                    fault,
+                    table,
+                }
             ),
-            _ => write!(f, "{wrong}: {}", why_of(&wrong)),
+            FaultPlace::Calendar(_) | FaultPlace::Lifecycle(_) | FaultPlace::People =>
+                match interval {
+                    Some(interval) => write!(f, "{interval}"),
+                    None => write!(f, "{}", Inner { fault }),
+                },
+            FaultPlace::PersonTwice(name) | FaultPlace::PersonAndGroup(name) => write!(
+                f,
+                "{}",
+                Repeated { place, name, table }
+            ),
+            FaultPlace::Limit(level, key) => write!(f, "{}", LimitFault { table, level, key }),
+            FaultPlace::Count(key) => write!(f, "{}", CountFault { table, key }),
+            _ => f.write_str(why_of(&place)),
         }
     }
 }
 
-/// What is wrong with a name, a token or a limit.
-fn why_of(wrong: &Wrong<'_>) -> &'static str {
-    match wrong {
-        Wrong::Person(_) | Wrong::Group(_) =>
-            "a name is 1 to 20 of a-z, 0-9, - and _, and begins with a letter",
-        Wrong::Granted(_, _) =>
+/// What is wrong with a name or a token.
+fn why_of(place: &FaultPlace<'_>) -> &'static str {
+    match place {
+        FaultPlace::Person(_) | FaultPlace::Group(_) =>
+            "a name is 1 to 20 of a-z, 0-9, - and _, in lower case, and begins with a letter",
+        FaultPlace::Granted(_, _) =>
             "a right is 1 to 32 letters, and a queue's name 1 to 20 of a-z, 0-9, - and _",
-        Wrong::PersonTwice(_) => "`persons` has this name twice",
-        Wrong::PersonAndGroup(_) => "a group has this name too",
-        Wrong::Member(_, _) | Wrong::Subject(_, _) => "no person or group has this name",
-        Wrong::Right(_, _) => "no right of the desk, nor one that a lifecycle asks for",
-        Wrong::CalendarOf(_, _) => "no calendar has this name",
-        Wrong::StatusOf(_, _) => "no lifecycle has this status",
-        Wrong::PersonOf(_, _) => "`persons` lacks this name",
-        Wrong::Token(_, _) => "a token is 16 to 64 letters, digits, - and _",
-        Wrong::Limit(_, _) => "a limit has one unit, and is from 1 to 525,600 minutes",
-        Wrong::Count("max_requests") => "from 1 to 1,000,000 requests are allowed",
-        Wrong::Count(_) => "from 1 to 10,000 entries of a request are allowed",
-        Wrong::Key(_) | Wrong::Calendar(_) | Wrong::Lifecycle(_) | Wrong::People => "",
+        FaultPlace::Member(_, _) | FaultPlace::Subject(_, _) => "no person or group has this name",
+        FaultPlace::Right(_, _) => "no right of the desk, nor one that a lifecycle asks for",
+        FaultPlace::CalendarOf(_, _) => "no calendar has this name",
+        FaultPlace::StatusOf(_, _) => "no lifecycle has this status",
+        FaultPlace::PersonOf(_, _) => "`persons` lacks this name",
+        FaultPlace::Token(_, _) => "a token is 16 to 64 letters, digits, - and _",
+        _ => "",
+    }
+}
+
+/// A name that stands twice, and both places.
+#[derive(Clone, Copy)]
+struct Repeated<'t> {
+    place: FaultPlace<'t>,
+    name: &'t str,
+    table: &'t Table,
+}
+
+impl fmt::Display for Repeated<'_> {
+    fn fmt<W: fmt::Write>(&self, f: &mut fmt::Formatter<W>) -> fmt::Result {
+        let Some(persons) = array_at(self.table, "persons") else {
+            return f.write_str("this name stands twice");
+        };
+        let first = number_of(persons, self.name, 0);
+        match self.place {
+            FaultPlace::PersonTwice(name) => {
+                let second = number_of(persons, name, first);
+                write!(f, "it is name {first} and name {second} of `persons`")
+            }
+            _ => write!(
+                f,
+                "it is name {first} of `persons`, and a group of [groups]"
+            ),
+        }
     }
 }
 
@@ -72,46 +126,69 @@ impl fmt::Display for Inner {
 struct KeyFault<'t> {
     found: KeyAt<'t>,
     fault: SettingsFault,
+    table: &'t Table,
 }
 
 impl fmt::Display for KeyFault<'_> {
     fn fmt<W: fmt::Write>(&self, f: &mut fmt::Formatter<W>) -> fmt::Result {
         let KeyAt { place, key, .. } = self.found;
-        match (self.fault, place) {
-            (SettingsFault::UnknownKey, _) => f.write_str("no key of this table"),
-            (SettingsFault::Missing, Place::Limit) => f.write_str(
-                "a limit needs `real_minutes` or `business_minutes`",
-            ),
-            (SettingsFault::Missing, _) => f.write_str("it must be there"),
-            (_, Place::Calendar) if key == "rule" => f.write_str(
-                "a rule is a text, and stands beside no `offset` or `changes`",
-            ),
-            _ => write!(f, "{}", Wanted { place, key }),
+        match self.fault {
+            SettingsFault::UnknownKey => f.write_str("no key of this table"),
+            SettingsFault::Missing => f.write_str(match place {
+                Place::Limit => "a limit needs `real_minutes` or `business_minutes`",
+                _ => "it must be there",
+            }),
+            _ => match value_of(self.table, self.found) {
+                Some(value) => write!(f, "{}", Other { place, key, value }),
+                None => f.write_str("another kind of value belongs there"),
+            },
         }
     }
 }
 
-/// What belongs at a key, and of what form the key has to be.
+/// A key of another form than is allowed there, or its value of another kind.
 #[derive(Clone, Copy)]
-struct Wanted<'t> {
+struct Other<'t> {
     place: Place,
     key: &'t str,
+    value: &'t Value,
 }
 
-impl fmt::Display for Wanted<'_> {
+impl fmt::Display for Other<'_> {
     fn fmt<W: fmt::Write>(&self, f: &mut fmt::Formatter<W>) -> fmt::Result {
-        match keys_at(self.place) {
-            Keys::Free(TextForm::Any, kind) => write!(f, "{} belongs there", kind_word(kind)),
-            Keys::Free(form, kind) => write!(
+        let Other { place, key, value } = *self;
+        match (keys_at(place), kind_of(place, key)) {
+            (Keys::Free(form, _), _) if !has_form(form, key) => write!(
                 f,
-                "{} belongs there, and the key is {}",
-                kind_word(kind),
+                "a key there is {}",
                 form_word(form)
             ),
-            _ => match kind_of(self.place, self.key) {
-                Some(kind) => write!(f, "{} belongs there", kind_word(kind)),
-                None => f.write_str("no key of this table"),
-            },
+            (_, Some(Kind::One(Item::Text(TextForm::Any)))) if value.as_str().is_some() =>
+                f.write_str("it stands beside no `offset` and no `changes`"),
+            (_, Some(kind)) => write!(f, "{}", OtherKind { kind, value }),
+            (_, None) => f.write_str("no key of this table"),
+        }
+    }
+}
+
+/// A value of another kind than is allowed there.
+#[derive(Clone, Copy)]
+struct OtherKind<'t> {
+    kind: Kind,
+    value: &'t Value,
+}
+
+impl fmt::Display for OtherKind<'_> {
+    fn fmt<W: fmt::Write>(&self, f: &mut fmt::Formatter<W>) -> fmt::Result {
+        let OtherKind { kind, value } = *self;
+        match (kind, misfit(kind, value)) {
+            (Kind::Many(item), Some(value)) => write!(
+                f,
+                "{} is not {}",
+                Typed { value },
+                item_word(item)
+            ),
+            _ => write!(f, "{} is not {}", Typed { value }, kind_word(kind)),
         }
     }
 }
@@ -119,15 +196,9 @@ impl fmt::Display for Wanted<'_> {
 /// What stands at a key of this kind.
 fn kind_word(kind: Kind) -> &'static str {
     match kind {
-        Kind::One(Item::Integer) => "a whole number",
-        Kind::One(Item::Boolean) => "`true` or `false`",
-        Kind::One(Item::Text(form)) => form_word(form),
-        Kind::One(Item::Pair) => "a list of two whole numbers",
-        Kind::One(Item::Table(_)) => "a table",
-        Kind::Many(Item::Text(TextForm::Day)) =>
-            "a list of days from 2000 to 2099, as \"2026-12-24\",",
-        Kind::Many(Item::Text(TextForm::Interval)) =>
-            "a list of intervals, as \"09:00-12:00\", up to 24:00,",
+        Kind::One(item) => item_word(item),
+        Kind::Many(Item::Text(TextForm::Day)) => "a list of days, as [\"2026-12-24\"]",
+        Kind::Many(Item::Text(TextForm::Interval)) => "a list of intervals, as [\"09:00-12:00\"]",
         Kind::Many(Item::Text(_)) => "a list of texts",
         Kind::Many(Item::Pair) => "a list of pairs of whole numbers",
         Kind::Many(Item::Table(_)) => "a list of tables",
@@ -135,14 +206,25 @@ fn kind_word(kind: Kind) -> &'static str {
     }
 }
 
+/// One such value.
+fn item_word(item: Item) -> &'static str {
+    match item {
+        Item::Integer => "a whole number",
+        Item::Boolean => "`true` or `false`",
+        Item::Text(form) => form_word(form),
+        Item::Pair => "a list of two whole numbers",
+        Item::Table(_) => "a table",
+    }
+}
+
 /// A text of this form.
 fn form_word(form: TextForm) -> &'static str {
     match form {
         TextForm::Any => "a text",
-        TextForm::Name => "1 to 20 of a-z, 0-9, - and _ that begin with a letter",
-        TextForm::To => "`everyone`, `person:NAME`, `group:NAME` or a role, as `role:owner`,",
+        TextForm::Name => "a name: 1 to 20 of a-z, 0-9, - and _, in lower case, a letter first",
+        TextForm::To => "`everyone`, `person:NAME`, `group:NAME` or a role, as `role:owner`",
         TextForm::RightKey => "`FROM -> TO`",
-        TextForm::Day => "a day, as \"2026-12-24\",",
-        TextForm::Interval => "an interval, as \"09:00-12:00\",",
+        TextForm::Day => "a day from 2000 to 2099, as \"2026-12-24\"",
+        TextForm::Interval => "an interval up to 24:00, as \"09:00-12:00\"",
     }
 }

@@ -1,9 +1,9 @@
 //! A load into a file of tables.
 
-use crate::check::tell_why;
 use crate::files::read_settings;
 use crate::load::load_over;
 use crate::options::Asked;
+use check_core::files::tell_why;
 use desk_program::{tell_input_fault, tell_store_fault};
 use load_core::Plan;
 use sqlite::Connection;

@@ -1,0 +1,10 @@
+use Rattle.std.proofs.Common.{◌∷◌, []}
+use Rattle.service_core.proofs.TestLemmas.{tests_of}
+use Rattle.check_core.specs.declared.bad_rows.Table.TheVariants as table
+use Rattle.check_core.proofs.FirstBad.{first_later}
+use Rattle.check_core.proofs.bad_rows.bad_from_entries.Goals as goal
+
+pub returns-in-Ok-clause-first : goal.returns-in-Ok-clause-first
+returns-in-Ok-clause-first g c =
+    first_later table.Entry (table.Watcher ∷ []) c.bad_watchers.result c.actors.ensures.kept c.bad_watchers.ensures.kept
+    (tests_of c.in-Ok.ensures.tested) c.bad_watchers.ensures.first

@@ -1,0 +1,141 @@
+//! Values of a settings text, as they are typed.
+
+use settings_form::form::{Item, Kind, TextForm};
+use settings_form::kinds::two_of;
+use settings_form::text_forms::has_form;
+use std::fmt;
+use toml::Value;
+use toml::value::Array;
+
+/// How many characters of a text are told.
+const MOST_CHARACTERS: usize = 60;
+
+/// How many values of a list are told.
+const MOST_VALUES: usize = 4;
+
+/// A value, in few words: up to 60 characters of a text, and up to four values of a list.
+#[derive(Clone, Copy)]
+pub struct Typed<'t> {
+    pub value: &'t Value,
+}
+
+impl fmt::Display for Typed<'_> {
+    fn fmt<W: fmt::Write>(&self, f: &mut fmt::Formatter<W>) -> fmt::Result {
+        match self.value {
+            Value::Array(list) => put_list(list, f),
+            value => write!(f, "{}", Single { value }),
+        }
+    }
+}
+
+fn put_list<W: fmt::Write>(list: &Array, f: &mut fmt::Formatter<W>) -> fmt::Result {
+    let mut before = "[";
+    for value in list.iter().take(MOST_VALUES) {
+        write!(f, "{before}{}", Single { value })?;
+        before = ", ";
+    }
+    if list.is_empty() {
+        f.write_str("[")?;
+    }
+    f.write_str(if list.len() > MOST_VALUES {
+        ", ..]"
+    } else {
+        "]"
+    })
+}
+
+/// A value, of which nothing inside a list or a table is told.
+#[derive(Clone, Copy)]
+struct Single<'t> {
+    value: &'t Value,
+}
+
+impl fmt::Display for Single<'_> {
+    fn fmt<W: fmt::Write>(&self, f: &mut fmt::Formatter<W>) -> fmt::Result {
+        match self.value {
+            Value::String(text) => write!(
+                f,
+                "{}",
+                Quoted {
+                    text: text.as_str()
+                }
+            ),
+            Value::Integer(number) => write!(f, "{number}"),
+            Value::Boolean(is) => write!(f, "{is}"),
+            Value::Float(_) => f.write_str("a number with a point"),
+            Value::Datetime(_) => f.write_str("a date without quotes"),
+            Value::Array(_) => f.write_str("a list"),
+            Value::Table(_) => f.write_str("a table"),
+        }
+    }
+}
+
+/// A text in quotes, up to 60 characters of it, in one line.
+#[derive(Clone, Copy)]
+struct Quoted<'t> {
+    text: &'t str,
+}
+
+impl fmt::Display for Quoted<'_> {
+    fn fmt<W: fmt::Write>(&self, f: &mut fmt::Formatter<W>) -> fmt::Result {
+        f.write_str("\"")?;
+        for character in self.text.chars().take(MOST_CHARACTERS) {
+            f.write_char(if character.is_control() {
+                ' '
+            } else {
+                character
+            })?;
+        }
+        f.write_str(if self.text.chars().count() > MOST_CHARACTERS {
+            "..\""
+        } else {
+            "\""
+        })
+    }
+}
+
+/// The first value of a list that is none of the items of this kind, where the value is a list and the
+/// kind one of lists.
+pub fn misfit(kind: Kind, value: &Value) -> Option<&Value> {
+    match (kind, value) {
+        (Kind::Many(item), Value::Array(list)) => other_item(item, list),
+        _ => None,
+    }
+}
+
+/// The first value of a list that is no such item.
+fn other_item(item: Item, list: &Array) -> Option<&Value> {
+    for value in list {
+        if !is_item(item, value) {
+            return Some(value);
+        }
+    }
+    None
+}
+
+fn is_item(item: Item, value: &Value) -> bool {
+    match item {
+        Item::Text(form) => is_text(form, value),
+        Item::Pair => is_pair(value),
+        Item::Table(_) => value.as_table().is_some(),
+        Item::Integer => value.is_integer(),
+        Item::Boolean => value.is_bool(),
+    }
+}
+
+fn is_text(form: TextForm, value: &Value) -> bool {
+    match value.as_str() {
+        Some(text) => has_form(form, text),
+        None => false,
+    }
+}
+
+fn is_pair(value: &Value) -> bool {
+    match value.as_array() {
+        Some(list) => match two_of(list) {
+            Some((first, second)) => first.is_integer() && second.is_integer(),
+            None => false,
+        },
+        None => false,
+    }
+}

@@ -1,0 +1,10 @@
+use Rattle.std.proofs.Common.{◌≡◌, drop}
+use Rattle.toml.specs.View.{items_view}
+use Rattle.settings_parts.specs.Values.{texts_in}
+use Rattle.settings_places.specs.BadNames.{bad_right_among}
+use Rattle.settings_places.proofs.bad_names.bad_right_among.Given as goal
+
+abbrev pub invariant-loop-value : goal.invariant-loop-value
+invariant-loop-value l =
+    bad_right_among (texts_in (items_view (drop l.value-index l.rights.items)))
+    ≡ bad_right_among (texts_in (items_view l.rights.items))

@@ -1,0 +1,75 @@
+//! Where a fault of settings stands, in words for people.
+
+use crate::place::FaultPlace;
+use settings_form::form::Place;
+use settings_form::walk::{KeyAt, TablePath};
+use std::fmt;
+
+/// A table of a settings text, to be named as the text does.
+#[derive(Clone, Copy)]
+struct TableNamed<'t> {
+    place: Place,
+    path: TablePath<'t>,
+}
+
+impl fmt::Display for TableNamed<'_> {
+    fn fmt<W: fmt::Write>(&self, f: &mut fmt::Formatter<W>) -> fmt::Result {
+        let TablePath {
+            around,
+            key,
+            number,
+        } = self.path;
+        match self.place {
+            Place::Top => write!(f, "the text"),
+            Place::Grant => write!(f, "[[grant]] {number}"),
+            Place::Groups | Place::Tokens | Place::Lifecycles | Place::Calendars | Place::Levels =>
+                write!(f, "[{key}]"),
+            Place::Lifecycle => write!(f, "[lifecycle.{key}]"),
+            Place::Calendar => write!(f, "[calendar.{key}]"),
+            Place::Level => write!(f, "[level.{key}]"),
+            Place::Transitions | Place::RightNames => write!(f, "[lifecycle.{around}.{key}]"),
+            Place::Limit => write!(f, "[level.{around}.{key}]"),
+        }
+    }
+}
+
+impl fmt::Display for FaultPlace<'_> {
+    fn fmt<W: fmt::Write>(&self, f: &mut fmt::Formatter<W>) -> fmt::Result {
+        match *self {
+            FaultPlace::Key(KeyAt { place, path, key }) => write!(
+                f,
+                "the key `{key}` of {}",
+                TableNamed { place, path }
+            ),
+            FaultPlace::Calendar(name) => write!(f, "[calendar.{name}]"),
+            FaultPlace::Lifecycle(name) => write!(f, "[lifecycle.{name}]"),
+            FaultPlace::Person(name)
+            | FaultPlace::PersonTwice(name)
+            | FaultPlace::PersonAndGroup(name) => write!(f, "the person `{name}`"),
+            FaultPlace::Group(name) => write!(f, "the group `{name}`"),
+            FaultPlace::Granted(number, name) => write!(f, "`{name}` in [[grant]] {number}"),
+            FaultPlace::Member(group, name) => write!(
+                f,
+                "`{name}`, a member of the group `{group}`"
+            ),
+            FaultPlace::Subject(number, to) => write!(f, "`{to}` in [[grant]] {number}"),
+            FaultPlace::People => write!(f, "`persons` and [groups]"),
+            FaultPlace::Right(number, right) => write!(
+                f,
+                "the right `{right}` in [[grant]] {number}"
+            ),
+            FaultPlace::CalendarOf(level, name) => write!(
+                f,
+                "the calendar `{name}` in [level.{level}]"
+            ),
+            FaultPlace::StatusOf(level, name) => write!(
+                f,
+                "the status `{name}` in [level.{level}]"
+            ),
+            FaultPlace::PersonOf(_, person) => write!(f, "`{person}`, the person of a token"),
+            FaultPlace::Token(_, person) => write!(f, "a token of `{person}`"),
+            FaultPlace::Limit(level, key) => write!(f, "the limit `{key}` of [level.{level}]"),
+            FaultPlace::Count(key) => write!(f, "the key `{key}` of the text"),
+        }
+    }
+}
