@@ -1,34 +1,41 @@
 #!/usr/bin/env python3
-"""Reads the tables of Request Tracker 5 and writes what the desk needs to become the same desk.
+"""Reads the tables of Request Tracker 4.4 or 5.0 and writes what the desk needs to become the same
+desk. TABLES is a file of SQLite, or what the client of a server wrote:
 
-    from_rt.py commands psql         prints a program that lets psql write the tables: run it in an
-                                     empty folder, with psql's own words for your database
-    from_rt.py commands mysql        the same for mysql
-    from_rt.py TABLES CONFIG OUT [--new-numbers]
+    from_rt.py commands psql > tables.sh     prints a program for psql, or for mysql, with which
+                                             `sh tables.sh rt5 > tables` writes what rt5 has
 
-TABLES is that folder, or a file of SQLite. CONFIG is what moving/config.pl prints. OUT is a folder,
-made here, into which it writes
+CONFIG is what moving/config.pl prints. OUT is a folder, made here, into which it writes
 
     settings.toml   what holds from the move on
     import.toml     the same people, statuses and levels with everything allowed, for the move alone
     lines           MOMENT CALLER COMMAND .., a line each, as after the %% of a script
+    report.txt      what is left out, by kind and count; what became of each kind of transaction
+    people.tsv      each name of RT's beside the one that it has here; the report ends with it
+    left.tsv        of what is left out or carried in another form, the tickets' numbers, by kind
+    fates.tsv       each transaction: its number, its first line, how many lines, what became of it
     names.json      which name and which number became which, for compare.py
 
-and it prints what is left out, by kind and count. RT's numbers are kept: a number between two
-tickets, which RT gave to a reminder say, is filed as a request that says nothing. --new-numbers
-leaves these out."""
+It prints the report too. RT's numbers are kept: a number between two tickets, which RT gave to a
+reminder say, is filed as a request that says nothing."""
+import argparse
 import json
 import os
 import sys
 
+import clients
 import lifecycles
 import tables
-from hours import Hours
-from names import Names
-from replay import GAP, Replay
+from fates import Fates
+from files import Folder, Nowhere
+from replay import Replay
 from report import Report
 from rights import Rights
-from source import Source
+from rows import Fault, open_tables, read
+from source import MOST_REQUESTS, Source
+from texts import Texts
+from tokens import Tokens, owned
+from wording import GAP, Wording
 
 # what the desk reads of settings, in bytes
 LONGEST = 1_048_576
@@ -42,120 +49,118 @@ on_create = "gone"
 """
 
 
-class Wording:
-    """What each thing of RT is called in the desk."""
-
-    def __init__(self, source, report):
-        self.source, self.report = source, report
-        self.persons = Names("user", report)
-        self.groups = Names("group", report, self.persons.taken)
-        self.queue_names, self.statuses = Names("queue", report), Names("status", report)
-        self.cycle_names, self.cycles = Names("lifecycle", report), {}
-        self.status_of = {}
-        used = {row.queue for row in source.tickets.values()}
-        self.carried = [id for id, row in source.queues.items() if id in used or not row.disabled]
-        report.left("queue that is disabled and empty", len(source.queues) - len(self.carried))
-        years = [int(row.created[:4]) for row in source.tickets.values()] or [2026]
-        self.hours = Hours(source.configuration, range(min(years), max(years) + 11),
-                           Names("level", report), Names("calendar", report), self.status, report)
-        for id in self.carried:
-            self.lifecycle(id)
-
-    def person(self, id):
-        row = self.source.users.get(id)
-        return self.persons.of(id, row.name if row else f"user-{id}")
-
-    def status(self, text):
-        return self.statuses.of(text.lower(), text)
-
-    def level(self, text):
-        return self.hours.level(text)
-
-    def queue(self, id):
-        return self.queue_names.of(id, self.source.queues[id].name) if id in self.carried else None
-
-    def queues(self):
-        return [(id, self.queue(id)) for id in self.carried]
-
-    def lifecycle(self, queue):
-        told = self.source.configuration["lifecycles"]
-        name = self.source.queues[queue].lifecycle
-        if name not in told:
-            self.report.other("queue whose lifecycle isn't configured, by `default`")
-            name = "default"
-        if name not in self.cycles:
-            self.cycles[name] = lifecycles.lifecycle(self.cycle_names.of(name, name), told[name],
-                                                     self.status, self.report)
-        return self.cycles[name]
-
-
-def settings(wording, rights, replay, is_real):
-    """The settings that hold from the move on, or those for the move alone."""
+def settings(wording, rights, keeps_numbers, tokens=None):
+    """The settings that hold from the move on; without rights, those for the move alone."""
     persons = sorted(wording.persons.given.values())
-    parts = [f"persons = {lifecycles.quoted(persons)}\n", rights.groups_text(),
-             rights.grants_text() if is_real else EVERYTHING]
-    parts += [GAP_LIFECYCLE] if replay.keeps_numbers else []
-    parts += [it.real() if is_real else it.open_wide() for it in wording.cycles.values()]
+    parts = [f"persons = {lifecycles.quoted(persons)}\n", rights.groups_text() if rights else "",
+             rights.grants_text() if rights else EVERYTHING]
+    parts += [tokens.settings()] if tokens else []
+    parts += [GAP_LIFECYCLE] if keeps_numbers else []
+    parts += [it.real() if rights else it.open_wide() for it in wording.cycles.values()]
     return "\n".join([*parts, wording.hours.text()])
 
 
-def names_of(wording, replay):
-    """What compare.py has to know: each name by RT's, and each request by its ticket's number."""
-    return {
-        "persons": wording.persons.given, "statuses": wording.statuses.given,
-        "queues": wording.queue_names.given, "levels": wording.hours.level_names.given,
-        "plain levels": sorted(wording.hours.plain),
-        "numbers": {id: request.number for id, request in replay.requests.items()},
-        "merged": [id for id, request in replay.requests.items() if request.merged],
-    }
-
-
 def write(folder, name, text):
-    with open(os.path.join(folder, name), "w", encoding="utf-8", newline="") as file:
+    """A file that its owner alone can read: all of these tell of people."""
+    with owned(os.path.join(folder, name)) as file:
         file.write(text)
-    if name.endswith(".toml") and len(text.encode()) > LONGEST:
-        print(f"{name} is longer than {LONGEST:,} bytes, and the desk doesn't read it")
+
+
+def check_length(folder, *names):
+    for name in names:
+        if os.path.getsize(os.path.join(folder, name)) > LONGEST:
+            raise Fault(f"{name} is longer than {LONGEST:,} bytes, and the desk doesn't read it: there are"
+                        " too many people, or too many tokens")
+
+
+def check_numbers(source, keeps_numbers):
+    most = source.last_number if keeps_numbers else len(source.tickets)
+    if most > MOST_REQUESTS:
+        raise Fault(f"{most:,} requests: the desk has at most {MOST_REQUESTS:,}"
+                    + ("; --new-numbers leaves out those that say nothing" if keeps_numbers else ""))
 
 
 def leave_out(source, replay):
     """Counts what no line and no setting tells."""
     report = source.report
-    for kind, count in source.other_counts:
-        report.left(kind, count)
-    report.left("group as a watcher of a ticket", source.watching_groups)
+    for row in source.rows("others"):
+        report.left(row.kind, row.count)
     report.left("address, password and real name of a user", len(source.users) - 2)
-    report.left("priority of a ticket", sum(bool(row.priority) for row in source.tickets.values()))
-    report.left("time worked on a ticket", sum(bool(row.worked) for row in source.tickets.values()))
-    report.left("seconds of a moment", len(replay.lines))
+    for row in source.tickets.values():
+        report.left("priority of a ticket", bool(row.priority), row.id)
+        report.left("time worked on a ticket", bool(row.worked), row.id)
+    report.left("seconds of a moment", replay.count)
 
 
-def move(place, configuration, folder, keeps_numbers):
-    with open(configuration, encoding="utf-8") as file:
-        source = Source(place, json.load(file), Report())
-    wording = Wording(source, source.report)
-    replay = Replay(source, wording, keeps_numbers)
-    replay.run()
+def bodies(place, with_files):
+    if with_files and not place.has("whole_bodies"):
+        raise Fault("TABLES has no files: let from_rt.py commands print the program by --files")
+    return read(place, "whole_bodies" if with_files or not place.has("bodies") else "bodies")
+
+
+def move(words):
+    report, keeps_numbers = Report(), not words.new_numbers
+    for path in filter(None, (words.tokens, words.files)):
+        if os.path.lexists(path):
+            raise Fault(f"{path} is there already")
+    with open(words.config, encoding="utf-8") as file:
+        configuration = json.load(file)
+    place = open_tables(words.tables)
+    source = Source(place, configuration, report)
+    check_numbers(source, keeps_numbers)
+    wording = Wording(source, report)
+    os.makedirs(words.out, mode=0o700, exist_ok=True)
+    files = Folder(words.files) if words.files else Nowhere()
+    texts = Texts(bodies(place, bool(words.files)), report, files)
+    with owned(os.path.join(words.out, "lines")) as lines, \
+            owned(os.path.join(words.out, "fates.tsv")) as fates:
+        replay = Replay(source, wording, texts, Fates(fates, report), lines, keeps_numbers)
+        replay.run()
     rights = Rights(source, wording)
+    tokens = Tokens(wording.everybody()) if words.tokens else None
+    if tokens:
+        tokens.write(words.tokens)
     leave_out(source, replay)
-    os.makedirs(folder, exist_ok=True)
-    write(folder, "settings.toml", settings(wording, rights, replay, True))
-    write(folder, "import.toml", settings(wording, rights, replay, False))
-    write(folder, "lines", "".join(line + "\n" for line in replay.lines))
-    write(folder, "names.json", json.dumps(names_of(wording, replay), ensure_ascii=False, indent=1))
-    print(f"{len(source.tickets):,} tickets and {len(source.transactions):,} transactions became"
-          f" {len(replay.lines):,} lines\n")
-    print(source.report.text(), end="")
+    write(words.out, "settings.toml", settings(wording, rights, keeps_numbers, tokens))
+    write(words.out, "import.toml", settings(wording, None, keeps_numbers))
+    write(words.out, "names.json", json.dumps(
+        {**wording.told(replay.requests), "files": bool(words.files), "cut": sorted(replay.cut)},
+        ensure_ascii=False, indent=1))
+    write(words.out, "people.tsv", report.names_text())
+    told = f"{len(source.tickets):,} tickets became {replay.count:,} lines\n\n{report.text()}"
+    write(words.out, "left.tsv", report.tickets_text())
+    write(words.out, "report.txt", f"{told}\nNames, in RT and here:\n{report.names_text()}")
+    print(told, end="")
+    check_length(words.out, "settings.toml", "import.toml")
+
+
+def words_of(arguments):
+    if arguments[:1] == ["commands"]:
+        parser = argparse.ArgumentParser(prog="from_rt.py commands")
+        parser.add_argument("client", choices=sorted(clients.CLIENTS))
+        parser.add_argument("--files", action="store_true", help="let it write attached files too")
+        return parser.parse_args(arguments[1:])
+    parser = argparse.ArgumentParser(description=__doc__,
+                                     formatter_class=argparse.RawDescriptionHelpFormatter)
+    parser.add_argument("tables", metavar="TABLES")
+    parser.add_argument("config", metavar="CONFIG")
+    parser.add_argument("out", metavar="OUT")
+    parser.add_argument("--new-numbers", action="store_true", help="leave requests that say nothing out")
+    parser.add_argument("--files", metavar="DIR", help="write attached files out, below a new folder")
+    parser.add_argument("--tokens", metavar="FILE",
+                        help="make a token for each user, and a table of name, address and token")
+    return parser.parse_args(arguments)
 
 
 def main():
-    words = [word for word in sys.argv[1:] if word != "--new-numbers"]
-    if len(words) == 2 and words[0] == "commands" and words[1] in tables.COMMANDS:
-        print(tables.commands(words[1]), end="")
-    elif len(words) == 3:
-        move(*words, "--new-numbers" not in sys.argv)
-    else:
-        print(__doc__, file=sys.stderr)
-        sys.exit(2)
+    words = words_of(sys.argv[1:])
+    try:
+        if "client" in words:
+            print(clients.commands(words.client, words.files), end="")
+        else:
+            move(words)
+    except (Fault, OSError) as fault:
+        sys.exit(f"from_rt.py: {fault}")
 
 
 if __name__ == "__main__":

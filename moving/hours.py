@@ -1,8 +1,11 @@
 """RT's levels and opening hours as the desk's settings write them."""
+from rows import Fault
+
 DAYS = ["sun", "mon", "tue", "wed", "thu", "fri", "sat"]
 WEEK = {str(day): {"Start": "9:00", "End": "18:00"} for day in range(1, 6)}
 LIMITS = {"Response": "response", "KeepInLoop": "keep_in_loop", "Resolve": "resolve"}
 ZONES = "/usr/share/zoneinfo/"
+MOST = 525_600    # minutes of a limit
 
 
 def clock(text):
@@ -12,8 +15,11 @@ def clock(text):
 
 def rule(zone):
     """The rule of a zone by its name, as the system has it at the end of its file."""
-    with open(ZONES + zone, "rb") as file:
-        return file.read().rsplit(b"\n", 2)[1].decode()
+    try:
+        with open(ZONES + zone, "rb") as file:
+            return file.read().rsplit(b"\n", 2)[1].decode()
+    except OSError as fault:
+        raise Fault(f"this system has no time zone {zone}: {fault.strerror}") from fault
 
 
 def intervals(day):
@@ -68,7 +74,7 @@ class Hours:
             if told.get(key) is None:
                 continue
             how = told[key] if isinstance(told[key], dict) else {"BusinessMinutes": told[key]}
-            lines.append(f"{limit} = {self.limit(how)}")
+            lines += [f"{limit} = {text}"] if (text := self.limit(how)) else []
             ignored |= {self.status_of(status) for status in how.get("IgnoreOnStatuses") or []}
             outside = (told.get("OutOfHours") or {}).get(key)
             self.report.left("limit of other hours (OutOfHours)", bool(outside))
@@ -82,7 +88,9 @@ class Hours:
         return "\n".join(lines) + "\n"
 
     def limit(self, how):
-        open_minutes, all_minutes = how.get("BusinessMinutes"), how.get("RealMinutes")
+        open_minutes, all_minutes = (int(how.get(it) or 0) for it in ("BusinessMinutes", "RealMinutes"))
+        if not 0 < (open_minutes or all_minutes) <= MOST:
+            return self.report.left(f"limit of no minutes, or of more than {MOST:,}")
         if open_minutes and all_minutes:
             self.report.left("limit in real minutes beside open ones")
         if open_minutes:

@@ -23,9 +23,11 @@ my $SYSTEM = RT->SystemUser;
 my $BEGIN = timegm(0, 0, 9, 2, 2, 2026);    # a Monday in March
 my $SPAN = 60 * 86400;
 srand(20261127);
-$RT::Handle->dbh->do('PRAGMA synchronous = OFF');
-# RT's tables of SQLite lack these two, and each step would read all of both
-$RT::Handle->dbh->do("CREATE UNIQUE INDEX by_id_$_ ON $_ (id)") for qw(Groups Users);
+if (RT->Config->Get('DatabaseType') eq 'SQLite') {
+    $RT::Handle->dbh->do('PRAGMA synchronous = OFF');
+    # RT's tables of SQLite lack these two, and each step would read all of both
+    $RT::Handle->dbh->do("CREATE UNIQUE INDEX by_id_$_ ON $_ (id)") for qw(Groups Users);
+}
 $NOW = $BEGIN - 3600;
 
 sub pick { return $_[rand @_] }
@@ -52,6 +54,8 @@ my @askers  = map { person($_, 0) } (map { sprintf 'kunde%02d@customers.example'
 sub user_of { my $user = RT::CurrentUser->new; $user->Load($_[0]); die "no $_[0]" unless $user->id; return $user }
 my %known;
 sub who { my ($name) = @_; return $known{$name} ||= user_of($name) }
+
+sub as_system { my $user = RT::User->new($SYSTEM); $user->Load($_[0]); return $user }
 
 sub group {
     my ($name, @members) = @_;
@@ -106,9 +110,16 @@ sub rights {
     grant(RT->System->RoleGroup('Requestor'), RT->System, qw(ShowTicket ReplyToTicket));
     grant($queues{'General Support'}->RoleGroup('Cc'), $queues{'General Support'}, 'ShowTicket');
     sure($queues{'General Support'}->AddWatcher(Type => 'Cc', PrincipalId => who('dora')->UserObj->PrincipalId));
+    grant(as_system('G Hansen'), RT->System, 'ShowTicket');
     return;
 }
 rights();
+
+# a role of our own, whose members may see a ticket
+my $engineer = RT::CustomRole->new($SYSTEM);
+sure($engineer->Create(Name => 'Engineer', MaxValues => 0));
+sure($engineer->AddToObject($queues{'General Support'}->id));
+grant(RT->System->RoleGroup($engineer->GroupType), $queues{'General Support'}, 'ShowTicket');
 
 # ---- texts
 
@@ -225,6 +236,11 @@ my @STEPS = (
         my ($who, $id) = @_;
         return load($who, $id)->AddWatcher(Type => pick(qw(Cc AdminCc)), PrincipalId => pick($shift, $special)->PrincipalId);
     }],
+    [2, engineer => sub {
+        my ($who, $id) = @_;
+        return if $tickets{$id}{queue} ne 'General Support';
+        return load($who, $id)->AddWatcher(Type => $engineer->GroupType, PrincipalId => person_id(pick(@askers)));
+    }],
     [5, link => sub {
         my ($who, $id) = @_;
         my $other = pick(@recent);
@@ -289,7 +305,7 @@ my @STEPS = (
 sub step {
     my ($id) = @_;
     return if $tickets{$id}{gone};
-    my $lot = rand 109;
+    my $lot = rand 111;
     for my $step (@STEPS) {
         my ($weight, $name, $do) = @$step;
         $lot -= $weight;
@@ -360,4 +376,5 @@ while (@events) {
     DBIx::SearchBuilder::Record::Cachable->FlushCache;
     $what->();
 }
+sure(as_system('G Hansen')->SetDisabled(1));
 printf "%-16s %5d\n", $_, $count{$_} for sort keys %count;

@@ -13,6 +13,10 @@ def spelled(text):
     return re.sub(r"[^a-z0-9_]+", "-", text).strip("-")
 
 
+def on_one_line(text):
+    return re.sub(r"[\x00-\x1f\x7f]", " ", text)
+
+
 class Names:
     """The names of one kind of thing, no two the same. Persons and groups have one set of them."""
 
@@ -27,6 +31,7 @@ class Names:
             name = self.free(spelled(text or ""))
             self.taken.add(name)
             self.given[key] = name
+            self.report.names.append((self.kind, on_one_line(text or ""), name))
             if name != text:
                 self.report.other(f"name of a {self.kind}, written otherwise")
         return self.given[key]

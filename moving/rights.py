@@ -6,8 +6,11 @@ from lifecycles import quoted
 RIGHTS = set("""SeeQueue CreateTicket AdminQueue ShowTicket ShowTicketComments ReplyToTicket
 CommentOnTicket ModifyTicket DeleteTicket OwnTicket TakeTicket StealTicket ReassignTicket Watch
 WatchAsAdminCc SuperUser""".split())
-# what RT allows to whoever holds ModifyTicket
-IMPLIED = {"ReplyToTicket", "CommentOnTicket", "TakeTicket", "StealTicket", "ReassignTicket"}
+# what RT allows to whoever holds one of these
+IMPLIED = {
+    "ModifyTicket": {"ReplyToTicket", "CommentOnTicket", "TakeTicket", "StealTicket", "ReassignTicket"},
+    "ReassignTicket": {"TakeTicket", "StealTicket"},
+}
 ROLES = {"Owner": "owner", "Requestor": "requestor", "Cc": "cc", "AdminCc": "admincc"}
 
 
@@ -21,7 +24,7 @@ class Rights:
         self.own_rights = {right for it in wording.cycles.values() for right in it.rights.values()}
         self.guarded = {name for id, name in wording.queues() if wording.lifecycle(id).guards_first_move()}
         self.grants, self.of_role = collections.defaultdict(set), collections.defaultdict(set)
-        self.groups = {}
+        self.groups, self.disabled_members = {}, set()
         for row in source.groups.values():
             if row.domain == "UserDefined" and not row.disabled:
                 self.group_names.of(row.id, row.name)
@@ -31,6 +34,7 @@ class Rights:
         for row in source.groups.values():
             if row.domain == "UserDefined" and not row.disabled:
                 self.groups[self.group_names.of(row.id, row.name)] = self.members(row.id)
+        self.report.left("disabled user as a member of a group", len(self.disabled_members))
 
     def grant(self, row):
         if row.object not in ("RT::System", "RT::Queue"):
@@ -40,12 +44,11 @@ class Rights:
             return self.report.left("right on a queue that isn't carried")
         if row.right not in RIGHTS | self.own_rights:
             return self.report.left(f"right {row.right}")
-        rights = {row.right}
-        if row.right == "ModifyTicket":
-            rights |= IMPLIED
-            self.report.other("ModifyTicket, with the five rights that it stands for in RT")
-            if queue in self.guarded:
-                self.report.other("of these on a queue whose first move is guarded, but not from a reply")
+        rights = {row.right} | IMPLIED.get(row.right, set())
+        if row.right in IMPLIED:
+            self.report.other(f"{row.right}, with the {len(rights) - 1} rights that it stands for in RT")
+        if row.right == "ModifyTicket" and queue in self.guarded:
+            self.report.other("of these on a queue whose first move is guarded, but not from a reply")
         if row.kind in ROLES:
             self.of_role[queue, row.kind] |= rights
         subject = self.subject(row)
@@ -61,8 +64,7 @@ class Rights:
         if group is None or group.disabled:
             return self.report.left("right of a group that is gone or disabled")
         if group.domain == "ACLEquivalence":
-            is_own = group.instance in (self.source.system, self.source.nobody)
-            return None if is_own else f"person:{self.person_of(group.instance)}"
+            return self.user(group.instance)
         if group.domain == "SystemInternal" and group.name == "Everyone":
             return "everyone"
         if group.domain == "SystemInternal":
@@ -71,7 +73,17 @@ class Rights:
             return f"group:{name}"
         if group.domain == "UserDefined":
             return f"group:{self.group_names.of(group.id, group.name)}"
+        if (group.name or "").startswith("RT::CustomRole"):
+            return self.report.left("right of a custom role")
         return self.report.left(f"right of {group.domain}")
+
+    def user(self, id):
+        """A user as a subject, but for RT's own two and those who may do nothing any more."""
+        if id in (self.source.system, self.source.nobody):
+            return None
+        if id not in self.source.users or self.source.users[id].disabled:
+            return self.report.left("right of a user who is disabled or gone")
+        return f"person:{self.person_of(id)}"
 
     def watchers_of_queues(self):
         """In RT a queue's watchers have the role on each of its tickets: here a group has its rights."""
@@ -91,7 +103,9 @@ class Rights:
         for member in self.source.members.get(group, ()):
             row = self.source.groups.get(member)
             if member in self.source.users:
-                if member not in (self.source.system, self.source.nobody):
+                if self.source.users[member].disabled:
+                    self.disabled_members.add((group, member))
+                elif member not in (self.source.system, self.source.nobody):
                     names.append(self.person_of(member))
             elif row and row.domain == "UserDefined" and not row.disabled:
                 names.append(self.group_names.of(row.id, row.name))

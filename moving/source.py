@@ -1,161 +1,128 @@
-"""RT's desk as its tables tell it: people, queues, tickets as they are, and as they were filed."""
+"""RT's desk as its tables tell it: people, queues, tickets as they are, and as they were filed. Of
+transactions and texts none is kept: they are read from the beginning each time they are asked for."""
 import collections
-import dataclasses
 import datetime
-import re
+import sys
 
-import tables
-from texts import Texts
+import rows
+from beginnings import Beginnings
+from kinds import ROLES, ROLE_PLACES, status_in
+from moments import END, FIRST
 
-ROLES = {"Requestor": "requestor", "Cc": "cc", "AdminCc": "admincc"}
-OWNING = {"Set", "Give", "Take", "Steal", "Untake", "Force"}
-TICKET = re.compile(r"(?:fsck\.com-rt://[^/]+/ticket/)?(\d+)")
-
-
-def minute(text):
-    """A moment of RT's tables, in minutes since 1970-01-01 00:00 UTC. Its seconds are dropped."""
-    moment = datetime.datetime.strptime(text[:19], "%Y-%m-%d %H:%M:%S")
-    return int(moment.replace(tzinfo=datetime.timezone.utc).timestamp()) // 60
-
-
-def other_end(text):
-    """The ticket at the other end of a link, or none where it is an address."""
-    found = TICKET.fullmatch(text or "")
-    return int(found[1]) if found else None
-
-
-def user_in(text):
-    """The id of a user in a transaction, or none where it names nobody."""
-    return int(text) if (text or "").isdigit() else None
-
-
-def sets_owner(it):
-    return it.field == "Owner" and it.type in OWNING and user_in(it.new) and user_in(it.old)
-
-
-def sets_status(it):
-    return it.type == "Status" or (it.type, it.field) == ("Set", "Status")
-
-
-def sets_level(it):
-    return (it.type, it.field) == ("Set", "SLA")
-
-
-def merges(it):
-    """The ticket into which this one is merged. RT writes that into the other's history too."""
-    if it.type == "AddLink" and it.field == "MergedInto" and other_end(it.new) != it.ticket:
-        return other_end(it.new)
-    return None
-
-
-@dataclasses.dataclass
-class State:
-    """What a ticket is at a moment. The people are ids of users."""
-    status: str
-    level: str
-    owner: int
-    people: dict
+NOBODY = frozenset()
+MOST_REQUESTS, MOST_QUEUES = 1_000_000, 1_000
 
 
 class Source:
     def __init__(self, place, configuration, report):
-        self.configuration, self.report = configuration, report
-        self.users = {row.id: row for row in tables.read(place, "users")}
-        self.nobody = next(it.id for it in self.users.values() if it.name == "Nobody")
-        self.system = next(it.id for it in self.users.values() if it.name == "RT_System")
-        self.groups = {row.id: row for row in tables.read(place, "groups")}
+        self.place, self.configuration, self.report = place, configuration, report
+        self.users = {row.id: row for row in self.rows("users")}
+        self.nobody = self.user_called("Nobody")
+        self.system = self.user_called("RT_System")
+        self.groups = {row.id: row for row in self.rows("groups")}
         self.members = collections.defaultdict(list)
-        for row in tables.read(place, "members"):
+        for row in self.rows("members"):
             self.members[row.group].append(row.member)
-        self.rights = list(tables.read(place, "rights"))
-        self.links = list(tables.read(place, "links"))
-        self.read_queues(place)
-        self.read_tickets(place)
-        self.texts = Texts(tables.read(place, "bodies"), report)
-        self.other_counts = list(tables.read(place, "others"))
-        self.first = {id: self.as_filed(id) for id in self.tickets}
-        self.without_merged()
+        self.rights = list(self.rows("rights"))
+        self.links = list(self.rows("links"))
+        self.level_fields = {str(row.field) for row in self.rows("level_fields")}
+        self.read_queues()
+        self.read_tickets()
+        self.read_people()
+        self.beginnings = Beginnings(self, self.transactions())
 
-    def read_queues(self, place):
-        own = {row.queue: row.level for row in tables.read(place, "queue_levels")}
+    def rows(self, name):
+        return rows.read(self.place, name)
+
+    def user_called(self, name):
+        found = next((it.id for it in self.users.values() if it.name == name), None)
+        if found is None:
+            raise rows.Fault(f"RT's tables have no user {name}")
+        return found
+
+    def read_queues(self):
+        own = {row.queue: row.level for row in self.rows("queue_levels")}
         by_queue = self.configuration["agreements"].get("QueueDefault") or {}
         general = self.configuration["agreements"].get("Default")
         self.queues, self.queue_levels = {}, {}
-        for row in tables.read(place, "queues"):
+        for row in self.rows("queues"):
             named = by_queue.get(row.name)
             named = named.get("Level") if isinstance(named, dict) else named
             self.queues[row.id] = row
             self.queue_levels[row.id] = None if row.no_level else own.get(row.id) or named or general
 
-    def read_tickets(self, place):
+    def read_tickets(self):
         """The tickets that are requests of people; reminders and the like are counted."""
-        self.tickets, self.last_number, self.of_ticket = {}, 0, collections.defaultdict(list)
-        for row in tables.read(place, "tickets"):
+        self.tickets, self.other_tickets, self.last_number = {}, {}, 0
+        moment = FIRST
+        for row in self.rows("tickets"):
             self.last_number = max(self.last_number, row.id)
-            if row.type == "ticket" and row.queue in self.queues:
-                self.tickets[row.id] = row
-            elif row.type == "ticket":
-                self.report.left("ticket of a queue that is gone")
+            moment = self.moment(row.created, moment)
+            kind = row.type or "ticket"
+            if kind == "ticket" and row.queue in self.queues:
+                self.tickets[row.id] = row._replace(
+                    created=moment, status=sys.intern(status_in(row.status)),
+                    level=sys.intern(row.level) if row.level else None, type=None,
+                    owner=row.owner if row.owner in self.users else self.nobody,
+                    creator=row.creator or self.system)
+                continue
+            kind = "ticket of a queue that is gone" if kind == "ticket" \
+                else f"{kind}, which RT keeps as a ticket"
+            self.other_tickets[row.id] = kind
+            self.report.left(kind, 1, row.id)
+        for row in self.rows("level_values"):
+            if row.ticket in self.tickets and not self.tickets[row.ticket].level:
+                self.tickets[row.ticket] = self.tickets[row.ticket]._replace(level=row.level)
+
+    def read_people(self):
+        """Who is in a role of each ticket: three sets in the order of ROLES, shared where they are
+        the same."""
+        found = collections.defaultdict(lambda: ([], [], []))
+        for row in self.rows("watchers"):
+            if row.ticket not in self.tickets:
+                continue
+            if row.role not in ROLES:
+                self.report.left("person or group in a custom role of a ticket", 1, row.ticket)
+            elif row.member in self.users:
+                found[row.ticket][ROLE_PLACES[row.role]].append(row.member)
             else:
-                self.report.left(f"{row.type}, which RT keeps as a ticket")
-        self.transactions = []
-        for row in tables.read(place, "transactions"):
-            if row.ticket in self.tickets:
-                self.transactions.append(row)
-                self.of_ticket[row.ticket].append(row)
-        roles = {(row.instance, row.name): row.id for row in self.groups.values()
-                 if row.domain == "RT::Ticket-Role"}
-        self.people = {id: {role: self.persons(roles.get((id, role))) for role in ROLES}
-                       for id in self.tickets}
-        self.watching_groups = sum(
-            member not in self.users for (id, role), group in roles.items()
-            if id in self.tickets and role in ROLES for member in self.members[group])
+                self.report.left("group as a watcher of a ticket", 1, row.ticket)
+        shared, none = {}, (NOBODY, NOBODY, NOBODY)
+        self.people = {id: none for id in self.tickets}
+        for id, those in found.items():
+            sets = tuple(shared.setdefault(it, it) for it in map(frozenset, those))
+            self.people[id] = shared.setdefault(sets, sets)
 
-    def persons(self, group):
-        return {member for member in self.members.get(group, ()) if member in self.users}
+    def moment(self, found, before):
+        """A moment that the desk knows; the one before, where RT has none."""
+        if found is None:
+            self.report.other("moment that isn't set, by the one before")
+            return before
+        if not FIRST <= found < END:
+            self.report.other("moment before 2000 or after 2099, moved there")
+        return min(max(found, FIRST), END - 1)
 
-    def as_filed(self, id):
-        """The ticket as it was filed: as it is, with its transactions taken back."""
-        row = self.tickets[id]
-        people = {role: set(those) for role, those in self.people[id].items()}
-        state = State(row.status, row.level, row.owner, people)
-        for it in reversed(self.of_ticket[id]):
-            if sets_status(it):
-                state.status = it.old
-            elif sets_level(it):
-                state.level = it.old
-            elif sets_owner(it):
-                state.owner = user_in(it.old)
-            elif it.type == "AddWatcher" and it.field in ROLES:
-                people[it.field].discard(user_in(it.new))
-            elif it.type == "DelWatcher" and it.field in ROLES and user_in(it.old) in self.users:
-                people[it.field].add(user_in(it.old))
-        return state
+    def transactions(self, is_counting=False):
+        """All of them in the order of their numbers, those of tickets with a moment and a creator."""
+        moment = FIRST
+        for it in self.rows("transactions"):
+            if it.object == "RT::Ticket" and it.ticket in self.tickets:
+                if it.created is None or not FIRST <= it.created < END:
+                    found = self.moment(it.created, moment) if is_counting \
+                        else min(max(it.created or moment, FIRST), END - 1)
+                    it = it._replace(created=found)
+                moment = it.created
+                if not it.creator:
+                    it = it._replace(creator=self.system)
+            yield it
 
-    def without_merged(self):
-        """Those who came into a ticket by a merge stand there without a transaction: not at first."""
-        for it in self.transactions:
-            into = merges(it)
-            if into in self.tickets:
-                creator = self.tickets[into].creator
-                for role in ROLES:
-                    self.first[into].people[role] -= self.people[it.ticket][role] - {creator}
+    def years(self):
+        """From the year of the first ticket to ten years behind that of the last."""
+        minutes = [row.created for row in self.tickets.values()] or [END - 1]
+        first, last = (datetime.datetime.fromtimestamp(it * 60, datetime.timezone.utc).year
+                       for it in (min(minutes), max(minutes)))
+        return first, min(last + 11, 2100)
 
-    def statuses_after_replies(self):
-        """What the status is once RT's own rules have worked on a reply, by transaction."""
-        after = {}
-        for id in self.tickets:
-            now, rows = self.first[id].status, self.of_ticket[id]
-            for place, it in enumerate(rows):
-                now = it.new if sets_status(it) else now
-                if it.type == "Correspond":
-                    after[it.id] = self.moved_by_rule(it, rows[place + 1:place + 4]) or now
-        return after
-
-    def moved_by_rule(self, reply, following):
-        for it in following:
-            if it.type in ("Correspond", "Comment"):
-                return None
-            if sets_status(it) and it.creator == self.system:
-                return it.new if minute(it.created) - minute(reply.created) <= 1 else None
-        return None
+    def sets_level(self, it):
+        return (it.type, it.field) == ("Set", "SLA") or \
+            it.type == "CustomField" and it.field in self.level_fields

@@ -1,113 +1,95 @@
-"""Reads RT's tables: a file of SQLite, or a folder of what psql and mysql write of a server's.
+"""What the move reads of RT's database: a statement for each kind of row, plain enough for SQLite,
+PostgreSQL and MariaDB or MySQL. All are read as of one moment.
 
-Each statement below names what the move needs of RT, and is plain enough for all three. What it
-gives has the columns that stand before it; `:n` after one says that it is a number."""
-import collections
-import csv
-import os
-import sqlite3
+A column is named with what it holds: `:n` a number, `:m` a moment, `:b` bytes, where nothing and no
+bytes are one; else a text. The first column of each is a number, by which rows.py tells a row."""
+import dataclasses
 
-OF_TICKETS = "JOIN Transactions ON Transactions.id = Attachments.TransactionId" \
-    " WHERE Transactions.ObjectType = 'RT::Ticket'"
-# only bodies are read: a file that somebody attached stays where it is
-BODY = "CASE WHEN ContentType IN ('text/plain', 'text/html') AND COALESCE(Filename, '') = ''" \
-    " THEN Content END"
+# only bodies are read: a file that somebody attached stays where it is, unless it is asked for
+IS_BODY = "LOWER(ContentType) IN ('text/plain', 'text/html') AND COALESCE(Filename, '') = ''"
+BODY = f"CASE WHEN {IS_BODY} OR ContentEncoding = 'quoted-printable' THEN Content END"
+# of base64 the letters that stand for bytes, four for three
+SIZE = "CASE WHEN ContentEncoding = 'base64' THEN LENGTH(REPLACE(REPLACE(Content, '\n', ''), '=', ''))" \
+    " ELSE OCTETS(Content) END"
 OTHERS = {
     "scrip": "Scrips WHERE Disabled = 0", "template": "Templates", "article": "Articles",
     "asset": "Assets", "custom field": "CustomFields WHERE Disabled = 0",
     "value of a custom field": "ObjectCustomFieldValues WHERE Disabled = 0",
     "saved search, dashboard or preference": "Attributes WHERE Name <> 'SLA'",
+    "custom role": "CustomRoles WHERE Disabled = 0",
+    "attachment of what is no ticket": "Attachments WHERE NOT EXISTS (SELECT 1 FROM Transactions"
+                                       " WHERE Transactions.id = TransactionId AND ObjectType = 'RT::Ticket')",
 }
+IS_LEVEL_FIELD = "CustomFields.Name = 'SLA' AND CustomFields.LookupType = 'RT::Queue-RT::Ticket'"
+
+
+@dataclasses.dataclass(frozen=True)
+class Statement:
+    columns: dict
+    rest: str
+
+
+def bodies(content):
+    """The attachments of tickets, by their transactions."""
+    return Statement({"transaction:n": "TransactionId", "id:n": "Attachments.id", "parent:n": "Parent",
+                      "type": "ContentType", "encoding": "ContentEncoding", "name": "Filename",
+                      "size:n": SIZE, "content:b": content},
+                     "Attachments JOIN Transactions ON Transactions.id = Attachments.TransactionId"
+                     " WHERE Transactions.ObjectType = 'RT::Ticket'"
+                     " ORDER BY Attachments.TransactionId, Attachments.id")
+
+
 STATEMENTS = {
-    "users": ("id:n name disabled:n", "SELECT Users.id, Users.Name, Principals.Disabled FROM Users"
-              " JOIN Principals ON Principals.id = Users.id ORDER BY Users.id"),
-    "groups": ("id:n name domain instance:n disabled:n", "SELECT Groups.id, Groups.Name, Groups.Domain,"
-               " Groups.Instance, Principals.Disabled FROM Groups"
-               " JOIN Principals ON Principals.id = Groups.id ORDER BY Groups.id"),
-    "members": ("group:n member:n", "SELECT GroupId, MemberId FROM GroupMembers ORDER BY id"),
-    "queues": ("id:n name lifecycle no_level:n disabled:n",
-               "SELECT id, Name, Lifecycle, SLADisabled, Disabled FROM Queues ORDER BY id"),
-    "queue_levels": ("queue:n level", "SELECT ObjectId, Content FROM Attributes"
-                     " WHERE ObjectType = 'RT::Queue' AND Name = 'SLA' ORDER BY id"),
-    "rights": ("kind principal:n right object id:n", "SELECT PrincipalType, PrincipalId, RightName,"
-               " ObjectType, ObjectId FROM ACL ORDER BY id"),
-    "tickets": ("id:n into:n queue:n type owner:n subject status level due creator:n created"
-                " priority:n worked:n",
-                "SELECT id, EffectiveId, Queue, Type, Owner, Subject, Status, SLA, Due, Creator,"
-                " Created, Priority, TimeWorked FROM Tickets ORDER BY id"),
-    "transactions": ("id:n ticket:n type field old new creator:n created",
-                     "SELECT id, ObjectId, Type, Field, OldValue, NewValue, Creator, Created"
-                     " FROM Transactions WHERE ObjectType = 'RT::Ticket' ORDER BY id"),
-    "links": ("base:n kind target:n creator:n created", "SELECT LocalBase, Type, LocalTarget, Creator,"
-              " Created FROM Links WHERE LocalBase > 0 AND LocalTarget > 0 ORDER BY id"),
-    "bodies": ("transaction:n type encoding name size:n content",
-               "SELECT TransactionId, ContentType, ContentEncoding, Filename, length(Content),"
-               f" {BODY} FROM Attachments {OF_TICKETS} ORDER BY Attachments.id"),
-    "others": ("kind count:n", " UNION ALL ".join(
-        f"SELECT '{kind}', count(*) FROM {table}" for kind, table in OTHERS.items())),
+    "users": Statement({"id:n": "Users.id", "name": "Users.Name", "address": "Users.EmailAddress",
+                        "disabled:n": "Principals.Disabled"},
+                       "Users JOIN Principals ON Principals.id = Users.id ORDER BY Users.id"),
+    "groups": Statement({"id:n": "GROUPS.id", "name": "GROUPS.Name", "domain": "GROUPS.Domain",
+                         "instance:n": "GROUPS.Instance", "disabled:n": "Principals.Disabled"},
+                        "GROUPS JOIN Principals ON Principals.id = GROUPS.id"
+                        " WHERE GROUPS.Domain <> 'RT::Ticket-Role' ORDER BY GROUPS.id"),
+    "members": Statement({"group:n": "GroupId", "member:n": "MemberId"},
+                         "GroupMembers JOIN GROUPS ON GROUPS.id = GroupId"
+                         " WHERE GROUPS.Domain <> 'RT::Ticket-Role' ORDER BY GroupMembers.id"),
+    "watchers": Statement({"ticket:n": "Instance", "role": "Name", "member:n": "MemberId"},
+                          "GROUPS JOIN GroupMembers ON GroupId = GROUPS.id"
+                          " WHERE GROUPS.Domain = 'RT::Ticket-Role' AND Name <> 'Owner'"
+                          " ORDER BY GroupMembers.id"),
+    "queues": Statement({"id:n": "id", "name": "Name", "lifecycle": "Lifecycle",
+                         "no_level:n": "SLADisabled", "disabled:n": "Disabled"}, "Queues ORDER BY id"),
+    "queue_levels": Statement({"queue:n": "ObjectId", "level": "Content"}, "Attributes"
+                              " WHERE ObjectType = 'RT::Queue' AND Name = 'SLA' ORDER BY id"),
+    "rights": Statement({"id:n": "ObjectId", "object": "ObjectType", "kind": "PrincipalType",
+                         "principal:n": "PrincipalId", "right": "RightName"}, "ACL ORDER BY id"),
+    "tickets": Statement({"id:n": "id", "into:n": "EffectiveId", "queue:n": "Queue", "type": "Type",
+                          "owner:n": "Owner", "subject": "Subject", "status": "Status", "level": "SLA",
+                          "creator:n": "Creator", "created:m": "Created", "priority:n": "Priority",
+                          "worked:n": "TimeWorked"}, "Tickets ORDER BY id"),
+    "level_fields": Statement({"field:n": "id"}, f"CustomFields WHERE {IS_LEVEL_FIELD} ORDER BY id"),
+    "level_values": Statement({"ticket:n": "ObjectId", "level": "Content"},
+                              "ObjectCustomFieldValues JOIN CustomFields ON CustomFields.id = CustomField"
+                              f" WHERE {IS_LEVEL_FIELD} AND ObjectType = 'RT::Ticket'"
+                              " AND ObjectCustomFieldValues.Disabled = 0"
+                              " ORDER BY ObjectCustomFieldValues.id"),
+    "transactions": Statement({"id:n": "id", "object": "ObjectType", "ticket:n": "ObjectId",
+                               "type": "Type", "field": "Field", "old": "OldValue", "new": "NewValue",
+                               "creator:n": "Creator", "created:m": "Created"},
+                              "Transactions ORDER BY id"),
+    "links": Statement({"base:n": "LocalBase", "kind": "Type", "target:n": "LocalTarget",
+                        "creator:n": "Creator", "created:m": "Created"},
+                       "Links WHERE LocalBase > 0 AND LocalTarget > 0 ORDER BY id"),
+    "bodies": bodies(BODY),
+    "whole_bodies": bodies("Content"),
+    "others": Statement({"count:n": "number", "kind": "kind"}, "(" + " UNION ALL ".join(
+        f"SELECT '{kind}' AS kind, COUNT(*) AS number FROM {table}" for kind, table in OTHERS.items())
+        + ") AS counted"),
+    "dues": Statement({"id:n": "id", "due:m": "Due"}, "Tickets ORDER BY id"),
 }
-# how the two clients write: what stands for nothing, and what follows a backslash
-MYSQL = {"n": "\n", "t": "\t", "0": "\0", "\\": "\\"}
-COMMANDS = {
-    "psql": ("csv", "psql --csv --tuples-only --pset null='\\N' \"$@\" -c \"{}\""),
-    "mysql": ("tsv", "mysql --batch --skip-column-names --default-character-set=utf8mb4 \"$@\" -e \"{}\""),
-}
 
 
-def commands(client):
-    """A program of the shell that lets the client write all the tables into the folder where it is
-    run. Its arguments are the client's own: how the database is reached."""
-    ending, words = COMMANDS[client]
-    lines = ["#!/bin/sh", "set -e"]
-    for name, (_, statement) in STATEMENTS.items():
-        if client == "mysql":
-            statement = statement.replace("Groups", "\\`Groups\\`")
-        lines.append(f"{words.format(statement)} > {name}.{ending}")
-    return "\n".join(lines) + "\n"
-
-
-def unescaped(word):
-    """What mysql meant by a word of a line."""
-    parts = iter(word)
-    return "".join(MYSQL.get(following := next(parts), following) if it == "\\" else it for it in parts)
-
-
-def of_psql(path):
-    with open(path, encoding="utf-8", newline="") as file:
-        for row in csv.reader(file):
-            yield [None if word == "\\N" else word for word in row]
-
-
-def of_mysql(path):
-    with open(path, encoding="utf-8", errors="replace", newline="\n") as file:
-        for line in file:
-            words = line.removesuffix("\n").split("\t")
-            yield [None if word == "NULL" else unescaped(word) for word in words]
-
-
-def of_sqlite(path, statement):
-    file = sqlite3.connect(f"file:{path}?mode=ro", uri=True)
-    file.text_factory = lambda text: text.decode("utf-8", "replace")
-    yield from file.execute(statement)
-    file.close()
-
-
-def plain(word):
-    return word.decode("utf-8", "replace") if isinstance(word, bytes) else word
-
-
-def read(place, name):
-    """The rows of one statement, each with the names of its columns."""
-    columns, statement = STATEMENTS[name]
-    words = columns.split()
-    row_of = collections.namedtuple(name, [word.removesuffix(":n") for word in words])
-    if os.path.isfile(place):
-        rows = of_sqlite(place, statement)
-    elif os.path.exists(os.path.join(place, name + ".csv")):
-        rows = of_psql(os.path.join(place, name + ".csv"))
-    else:
-        rows = of_mysql(os.path.join(place, name + ".tsv"))
-    csv.field_size_limit(1 << 30)
-    for row in rows:
-        yield row_of(*(int(word) if kind.endswith(":n") and word is not None else plain(word)
-                       for kind, word in zip(words, row)))
+def text_of(name, octets, groups="Groups", column=lambda kind, what: what):
+    """The statement in the words of a database: how it counts bytes, how it writes the name of the
+    table of groups, and how it tells a column of a kind."""
+    told = STATEMENTS[name]
+    columns = ", ".join(column(name.partition(":")[2], what) for name, what in told.columns.items())
+    text = f"SELECT {columns} FROM {told.rest}"
+    return text.replace("OCTETS(Content)", octets).replace("GROUPS", groups)
