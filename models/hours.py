@@ -35,7 +35,8 @@ class Calendar:
         self.holidays = {day_of(*map(int, text.split("-"))) for text in table.get("holidays", [])}
         self.week = [[tuple(map(minute_of, text.split("-"))) for text in table.get(name, [])]
                      for name in WEEK]
-        self.runs = [run for first, end, offset in self.stretches(table)
+        self.zone = list(self.stretches(table))
+        self.runs = [run for first, end, offset in self.zone
                      for run in self.runs_of(first, end, offset)]
         self.begins = [first for first, _ in self.runs]
 
@@ -66,6 +67,11 @@ class Calendar:
         for first, end in self.runs[max(bisect_right(self.begins, moment) - 1, 0):]:
             if moment < end:
                 yield max(first, moment), end
+
+    def local(self, moment):
+        """What clocks show at a moment, as the moment that they would show at no offset; or None."""
+        shown = moment + [offset for first, _, offset in self.zone if first <= moment][-1]
+        return shown if START <= shown <= END else None
 
     def first_open(self, moment):
         return next((first for first, _ in self.runs_from(moment)), None)

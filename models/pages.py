@@ -1,0 +1,193 @@
+"""What the pages tell, by docs/pages.md: the facts of each page for a caller at a moment, as plain
+values. A page's words and its markup are none of them."""
+from answers import INVERSES, owner_text
+from finding import ANY, found, told
+from hours import DAY, moment_text
+from rules import Refused, refuse_if
+
+ROWS, FIRST_ROWS, SUGGESTED = 100, 20, 200
+DASH = "–"
+NAMES = {
+    "DependsOn": "Depends on", "DependedOnBy": "Depended on by", "MemberOf": "Member of",
+    "HasMember": "Has members", "RefersTo": "Refers to", "ReferredToBy": "Referred to by"}
+
+
+def page(desk, at, caller, name, *words):
+    """The code of a page and its facts, or those of a refusal."""
+    try:
+        refuse_if("UnknownCaller", caller not in desk.settings.persons)
+        return 200, {"home": home, "queue": queue, "find": find, "request": request, "late": late,
+                     "workload": workload, "new": new}[name](desk, at, caller, *words)
+    except Refused as refusal:
+        return code_of(refusal), {"refused": refusal_text(refusal), "back": "/"}
+
+
+def code_of(refusal):
+    """The code of HTTP for a refusal, by docs/http.md."""
+    if refusal.number in (2, 3, 5, 14):
+        return 400
+    return {1: 403, 6: 403, 4: 404}.get(refusal.number, 409)
+
+
+def refusal_text(refusal):
+    right = f" {refusal.right}" if refusal.right else ""
+    return f"refused {refusal.number} {refusal.name}{right}"
+
+
+# ---- lists
+
+def time_text(moment):
+    return DASH if moment is None else moment_text(moment)
+
+
+def is_late(due, at):
+    return due is not None and due < at
+
+
+def row(it, caller, at):
+    one = it.request
+    return [one.number, one.subject, sorted(one.roles["requestor"]), one.queue.name, one.status,
+            owner_text(one.owner), time_text(it.due), is_late(it.due, at), moment_text(it.last),
+            whose(one.owner, caller)]
+
+
+def whose(owner, caller):
+    return "nobody" if owner is None else "mine" if owner == caller else ""
+
+
+def section(desk, at, caller, **fields):
+    all_of = found(desk, caller, at, ANY._replace(state="open", order="due", **fields))
+    return [len(all_of), [row(it, caller, at) for it in all_of[:FIRST_ROWS]]]
+
+
+def home(desk, at, caller):
+    seen = [it for it in sorted(desk.by_name.values(), key=lambda it: it.name)
+            if desk.sees_queue(caller, it)]
+    live = found(desk, caller, at, ANY._replace(state="open"))
+    return {
+        "own": section(desk, at, caller, owner="Me"),
+        "asked": section(desk, at, caller, requestor="Me"),
+        "free": section(desk, at, caller, owner="Nobody"),
+        "queues": [[it.name, *counts(live, it, at), it.level or DASH] for it in seen],
+        "lifecycles": sorted(desk.settings.lifecycles), "levels": sorted(desk.settings.levels)}
+
+
+def counts(live, of, at):
+    """How many of a queue are open, and how many of them late."""
+    dues = [it.due for it in live if it.request.queue is of]
+    return len(dues), sum(is_late(due, at) for due in dues)
+
+
+def find(desk, at, caller, search, first=0):
+    """A page of a search, from so many that were found on."""
+    all_of = found(desk, caller, at, search)
+    return {"count": len(all_of), "rows": [row(it, caller, at) for it in all_of[first:first + ROWS]],
+            "later": len(all_of) > first + ROWS}
+
+
+def queue(desk, at, caller, name):
+    return find(desk, at, caller, ANY._replace(queue=name, state="open"))
+
+
+def late(desk, at, caller):
+    return {"rows": [[it.request.number, it.request.queue.name, owner_text(it.request.owner),
+                      moment_text(it.due), span_text(it.late), whose(it.request.owner, caller)]
+                     for it in desk.ask(at, caller, "overdue", [])]}
+
+
+def span_text(minutes):
+    if minutes >= DAY:
+        return f"{minutes // DAY} d {minutes % DAY // 60} h"
+    return f"{minutes // 60} h {minutes % 60} min" if minutes >= 60 else f"{minutes} min"
+
+
+def workload(desk, at, caller):
+    loads = desk.ask(at, caller, "workload", [])
+    return {"rows": [[owner_text(it.owner), it.live, it.overdue, whose(it.owner, caller)] for it in loads],
+            "total": [sum(it.live for it in loads), sum(it.overdue for it in loads)]}
+
+
+def new(desk, _at, caller, name):
+    """The form for a new request. Where the caller doesn't see the queue, no status is offered."""
+    of = desk.by_name.get(name)
+    cycle = of.lifecycle if of and desk.sees_queue(caller, of) else None
+    return {"statuses": cycle.create if cycle else [], "usual": cycle.on_create if cycle else None}
+
+
+# ---- a request
+
+def request(desk, at, caller, number):
+    shown = desk.ask(at, caller, "show", [number])
+    one = shown.request
+    offers = moves(one)
+    is_requestor = caller in one.roles["requestor"]
+    return {
+        "subject": one.subject, "queue": one.queue.name, "facts": facts(desk, at, shown),
+        "history": [entry(it) for it in told(desk, caller, one)],
+        "moves": offers, "closing": None if is_requestor else closing(one, offers),
+        "unfolded": not is_requestor, "owner": owner_form(one, caller),
+        "owners": owners(desk, caller, one), "people": people(one, caller),
+        "levels": sorted(desk.settings.levels), "level": one.level}
+
+
+def facts(desk, at, shown):
+    """Each fact by its heading."""
+    one = shown.request
+    level = desk.settings.levels.get(one.level)
+    told_of = {"Status": one.status, "Owner": owner_text(one.owner),
+               "Due": dated(shown.due, level) + (" late" if is_late(shown.due, at) else ""),
+               "Level": one.level or DASH, "Filed": dated(one.created, level),
+               "Requestors": sorted(one.roles["requestor"])}
+    for heading, role in (("Cc", "cc"), ("AdminCc", "admincc")):
+        told_of[heading] = sorted(one.roles[role])
+    for kind, inverse in INVERSES:
+        told_of[NAMES[kind]] = sorted(it.target for it in shown.linked if it.kind == kind)
+        told_of[NAMES[inverse]] = sorted(it.source for it in shown.linking if it.kind == kind)
+    return {heading: value for heading, value in told_of.items() if value or heading == "Requestors"}
+
+
+def dated(moment, level):
+    """A moment, with local time beside it where there is a level."""
+    local = level.calendar.local(moment) if level and moment is not None else None
+    return time_text(moment) + (f" {moment_text(local)} local" if local is not None else "")
+
+
+TELLING = {
+    "create": "filed it as {1}", "status": "moved it from {0} to {1}",
+    "owner": "changed the owner from {0} to {1}", "level": "changed the level from {0} to {1}",
+    "reply": "replied", "comment": "commented", "watch": "put {1} into {0}",
+    "unwatch": "took {1} out of {0}", "link": "linked it: {0} {1}", "unlink": "unlinked it: {0} {1}"}
+
+
+def entry(it):
+    is_text = it.kind in ("reply", "comment")
+    return [it.number, it.actor, TELLING[it.kind].format(it.head, it.body), moment_text(it.moment),
+            it.body if is_text else None]
+
+
+def moves(one):
+    """The statuses to which its lifecycle lets it move, in the order of the lifecycle."""
+    cycle = one.queue.lifecycle
+    return [it for it in cycle.statuses if (one.status, it) in cycle.moves]
+
+
+def closing(one, offers):
+    """The first inactive status, if it is offered: a reply may move there too."""
+    first = one.queue.lifecycle.inactive[:1]
+    return first[0] if first and first[0] in offers else None
+
+
+def owner_form(one, caller):
+    return "take" if one.owner is None else "untake" if one.owner == caller else "steal"
+
+
+def owners(desk, caller, one):
+    """The names that are suggested for its next owner, to whoever may own it."""
+    if not desk.has_on(caller, "OwnTicket", one):
+        return []
+    able = [it for it in desk.settings.persons if desk.has_on(it, "OwnTicket", one)]
+    return sorted(able) if len(able) <= SUGGESTED else None
+
+
+def people(one, caller):
+    return sorted(set().union(*one.roles.values()) | {one.owner or caller, caller})

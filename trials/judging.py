@@ -1,0 +1,55 @@
+"""A stub that stands between `desk_web` and its clients: what is asked, or what is answered, goes on altered."""
+import os
+
+BETWEEN = """#!/usr/bin/env python3
+import contextlib, ctypes, os, re, socket, subprocess, sys, threading
+words = sys.argv[1:]
+place, listener = words.index("--port") + 1, None
+port = int(words[place])
+with socket.socket() as it:
+    it.bind(("127.0.0.1", 0))
+    words[place] = str(it.getsockname()[1])
+run = subprocess.Popen([{web!r}, *words], stdout=subprocess.PIPE,
+                       preexec_fn=lambda: ctypes.CDLL(None).prctl(1, 9))
+told = run.stdout.readline()
+if told != b"listening %s\\n" % words[place].encode():
+    sys.stdout.buffer.write(told)
+    sys.exit(run.wait())
+def other():
+    return socket.create_connection(("127.0.0.1", int(words[place])))
+def admin():
+    with open(words[words.index("--settings") + 1]) as file:
+        text = file.read()
+    name = re.search(r'to = "person:(.*)"', text).group(1)
+    return re.search(r'^(.*) = "%s"$' % name, text, re.M).group(1).encode()
+def seen_by(token, part):
+    return re.sub(rb"Desk-Token: [^\\r]*", b"Desk-Token: " + token, part)
+def twice(part):
+    with other() as stream:
+        stream.sendall(part)
+        while stream.recv(65536):
+            pass
+    return part
+def handle(stream):
+    with contextlib.suppress(OSError), stream, other() as behind:
+        def there():
+            with contextlib.suppress(OSError):
+                while part := stream.recv(262144):
+                    behind.sendall({asked})
+                behind.shutdown(1)
+        threading.Thread(target=there, daemon=True).start()
+        while part := behind.recv(65536):
+            stream.sendall({answered})
+def until():
+    status = run.wait()
+    os._exit(status if status >= 0 else 128 - status)
+listener = socket.create_server(("127.0.0.1", port), backlog=128)
+print("listening", port, flush=True)
+threading.Thread(target=until, daemon=True).start()
+while True:
+    threading.Thread(target=handle, args=(listener.accept()[0],), daemon=True).start()
+"""
+
+
+def between(bins, answered="part", asked="part"):
+    return BETWEEN.format(web=os.path.join(bins, "desk_web"), answered=answered, asked=asked)

@@ -1,0 +1,43 @@
+"""What a run has seen: answers by way, kind and outcome, their times, faults, and how things grew."""
+import collections
+import statistics
+
+
+class Figures:
+    def __init__(self):
+        self.answers = collections.Counter()
+        self.times = collections.defaultdict(list)
+        self.by_hour = collections.defaultdict(list)
+        self.faults = collections.Counter()
+        self.nights = []
+        self.compared = collections.Counter()
+
+    def answered(self, ask, code, seconds):
+        """One answer, its outcome, and how long it took."""
+        self.answers[ask.way, ask.name, code] += 1
+        self.timed(ask.way if ask.way != "page" else "page (a form)" if not ask.reads else "page (read)", ask.at,
+                   seconds)
+
+    def timed(self, way, at, seconds):
+        self.times[way].append(seconds)
+        self.by_hour[at // 60 % 24].append(seconds)
+
+    def night(self, at, requests, memory, file, log, home):
+        self.nights.append((at, requests, memory, file, log, home))
+
+    def total(self):
+        return sum(self.answers.values())
+
+    def middles(self):
+        """The count, the middle and the slowest of each way, in milliseconds."""
+        for way, times in sorted(self.times.items()):
+            yield way, len(times), 1000 * statistics.median(times), 1000 * max(times)
+
+
+def outcome(answer):
+    """What an answer comes to, in a word: done, or the refusal."""
+    text = next((it for it in answer if isinstance(it, (str, dict))), "")
+    if isinstance(text, dict):
+        text = text.get("refused") or "ok"
+    words = text.split()
+    return words[2] if words[:1] == ["refused"] and len(words) > 2 else "done"

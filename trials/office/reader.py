@@ -1,0 +1,235 @@
+"""What a page tells, read from its markup: the facts that models/pages.py tells by the rules, as the same
+plain values."""
+from html.parser import HTMLParser
+
+VOID = {"meta", "link", "input", "br", "hr", "img"}
+
+
+class Node:
+    def __init__(self, tag, marks, above):
+        self.tag, self.marks, self.above, self.parts = tag, marks, above, []
+
+    def all(self, tag, kind=None):
+        """All nodes below it of a tag, and of a class."""
+        for part in self.parts:
+            if isinstance(part, Node):
+                if part.tag == tag and (kind is None or kind in part.kinds):
+                    yield part
+                yield from part.all(tag, kind)
+
+    def one(self, tag, kind=None):
+        return next(self.all(tag, kind), None)
+
+    @property
+    def kinds(self):
+        return (self.marks.get("class") or "").split()
+
+    def raw(self):
+        return "".join(it if isinstance(it, str) else it.raw() for it in self.parts)
+
+    def text(self):
+        return " ".join(self.raw().split())
+
+
+class Reader(HTMLParser):
+    def __init__(self, page):
+        super().__init__()
+        self.top = self.at = Node("", {}, None)
+        self.feed(page)
+        self.close()
+
+    def handle_starttag(self, tag, attrs):
+        node = Node(tag, dict(attrs), self.at)
+        self.at.parts.append(node)
+        if tag not in VOID:
+            self.at = node
+
+    def handle_endtag(self, tag):
+        if self.at.tag != tag:
+            raise ValueError(f"</{tag}> where <{self.at.tag}> is open")
+        self.at = self.at.above
+
+    def handle_data(self, data):
+        self.at.parts.append(data)
+
+
+def read(page):
+    return Reader(page).top
+
+
+# ---- forms
+
+def forms(top):
+    """The forms of a page by their actions: the hidden fields of the first of each."""
+    found = {}
+    for form in top.all("form"):
+        hidden = {it.marks["name"]: it.marks.get("value", "") for it in form.all("input")
+                  if it.marks.get("type") == "hidden" and it.marks.get("name")}
+        found.setdefault(form.marks.get("action"), hidden)
+        for button in form.all("button"):
+            if "formaction" in button.marks:
+                found.setdefault(button.marks["formaction"], hidden)
+    return found
+
+
+def is_sign_in(top):
+    return any(it.marks.get("name") == "token" for it in top.all("input"))
+
+
+# ---- lists
+
+def whose(row):
+    return next((it for it in row.kinds if it in ("mine", "nobody")), "")
+
+
+def moment(cell):
+    """The moment of a cell, without the word `late` behind it."""
+    time = cell.one("time")
+    return time.text() if time else cell.text().removesuffix(" late")
+
+
+def rows(table):
+    """The rows of a list of requests."""
+    return [row_of(row) for row in table.one("tbody").all("tr")] if table else []
+
+
+def row_of(row):
+    title, (number, queue, status, owner, due, last) = row.one("th"), list(row.all("td"))
+    return [int(number.text()), title.one("a").raw(), [it.raw() for it in title.all("small")], queue.text(),
+            status.text(), owner.text(), moment(due), "late" in row.kinds, moment(last), whose(row)]
+
+
+def home(top):
+    main, facts = top.one("main"), {}
+    names = {"You own": "own", "You asked for": "asked", "Nobody owns": "free"}
+    tables = {it.one("caption").text(): it for it in main.all("table", "list")}
+    for heading in main.all("h2"):
+        count = heading.one("small").text()
+        title = heading.text().removesuffix(count).strip()
+        facts[names[title]] = [int(count.split()[0]), rows(tables.get(title))]
+    facts["queues"] = [[row.one("th").text(), *queue_row(list(row.all("td")))]
+                       for row in main.one("table", "queues").one("tbody").all("tr")]
+    form = next(it for it in main.all("form") if it.marks.get("action") == "/desk/queues")
+    facts["lifecycles"], facts["levels"] = (choices(form, name) for name in ("lifecycle", "level"))
+    return facts
+
+
+def queue_row(cells):
+    return [int(cells[0].text()), int(cells[1].text()), cells[2].text()]
+
+
+def choices(top, name):
+    """What can be chosen, but for none."""
+    select = next(it for it in top.all("select") if it.marks.get("name") == name)
+    return sorted(it.text() for it in select.all("option") if it.marks.get("value") != "")
+
+
+def find(top):
+    main = top.one("main")
+    count = next(it for it in main.all("p") if it.text().startswith("Found:")).text().split()[1]
+    later = any(it.marks.get("rel") == "next" for it in main.all("a"))
+    return {"count": int(count), "rows": rows(main.one("table", "list")), "later": later}
+
+
+def late(top):
+    return {"rows": [[int(row.one("th").text()), *late_row(list(row.all("td"))), whose(row)]
+                     for row in top.one("table", "late").one("tbody").all("tr")]}
+
+
+def late_row(cells):
+    return [cells[0].text(), cells[1].text(), moment(cells[2]), cells[3].text()]
+
+
+def workload(top):
+    table = top.one("table", "load")
+    total = list(table.one("tfoot").all("td"))
+    return {"rows": [[row.one("th").text(), *(int(it.text()) for it in list(row.all("td"))[:2]), whose(row)]
+                     for row in table.one("tbody").all("tr")], "total": [int(it.text()) for it in total[:2]]}
+
+
+def new(top):
+    select = next((it for it in top.all("select") if it.marks.get("name") == "status"), None)
+    options = list(select.all("option")) if select else []
+    usual = next((it.text() for it in options if "selected" in it.marks), None)
+    return {"statuses": [it.text() for it in options], "usual": usual}
+
+
+# ---- a request
+
+LISTS = {"Requestors", "Cc", "AdminCc"}
+LINKS = {"Depends on", "Depended on by", "Member of", "Has members", "Refers to", "Referred to by"}
+
+
+def request(top):
+    main = top.one("main")
+    change, heading = main.one("details", "change"), main.one("h1")
+    level = next(it for it in change.all("select") if it.marks.get("name") == "level")
+    return {
+        "subject": "".join(it for it in heading.parts if isinstance(it, str))[1:],
+        "queue": list(main.one("p", "crumb").all("a"))[1].text(),
+        "facts": dict(map(fact, main.one("dl", "facts").all("div"))),
+        "history": [entry(it) for it in main.one("ol", "history").all("li")],
+        "moves": moves(change), "closing": closing(main), "unfolded": "open" in change.marks,
+        "owner": owner_form(change), "owners": named(change, "owners"), "people": named(change, "people"),
+        "levels": choices(change, "level"),
+        "level": next((it.text() for it in level.all("option") if "selected" in it.marks), None)}
+
+
+def fact(div):
+    heading, told = div.one("dt").text(), div.one("dd")
+    if heading in LISTS:
+        spans = [it for it in told.all("span") if it.above is told]
+        return heading, [it.text() for it in spans]
+    if heading in LINKS:
+        return heading, [int(it.text()) for it in told.all("a")]
+    return heading, told.text()
+
+
+def entry(item):
+    first = item.one("p")
+    told, written = first.one("span"), item.one("div")
+    actor = told.one("b").text()
+    return [int(first.one("i").text()), actor, told.text().removeprefix(actor).strip(),
+            first.one("time").text(), written.raw() if written else None]
+
+
+def moves(change):
+    return [it.marks["value"] for it in change.all("button") if it.marks.get("name") == "status"]
+
+
+def closing(main):
+    return next((it.marks.get("value") for it in main.one("div", "write").all("input")
+                 if it.marks.get("name") == "status"), None)
+
+
+def owner_form(change):
+    ends = [it.marks.get("action", "").rsplit("/", 1)[-1] for it in change.all("form")]
+    return next((it for it in ends if it in ("take", "untake", "steal")), None)
+
+
+def named(change, list_name):
+    found = next(it for it in change.all("datalist") if it.marks.get("id") == list_name)
+    return sorted({it.marks["value"] for it in found.all("option")})
+
+
+# ---- refusals
+
+def refused(top):
+    """The refusal of a page, the text that is still in its form, and the way back."""
+    code = top.one("code")
+    area = next(top.all("textarea"), None)
+    backs = [it.marks["href"] for it in top.one("main").all("a", "button")]
+    return {"refused": code.text() if code else None, "back": backs[-1] if backs else None,
+            **({"typed": area.raw().removeprefix("\n")} if area else {})}
+
+
+PAGES = {"home": home, "queue": find, "find": find, "late": late, "workload": workload, "new": new,
+         "request": request}
+
+
+def facts_of(name, code, page):
+    """What a page of this name tells, or its refusal."""
+    top = read(page)
+    if is_sign_in(top):
+        return {"refused": "sign in"}
+    return PAGES[name](top) if code == 200 else refused(top)

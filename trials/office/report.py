@@ -1,0 +1,116 @@
+"""What a run tells: lines on the output, bench/year.md, and pictures beside it."""
+import collections
+import datetime
+import os
+import statistics
+
+from tally import TOP
+
+from office.svg import picture
+
+WAYS = {"page": "a browser's forms and pages", "http": "the interface", "shell": "`desk_ask`",
+        "file": "`desk` on the file", "load": "`desk_load`"}
+
+
+def told(trial, given, seconds):
+    figures = trial.figures
+    lines = [f"seed {given.seed}, {len(figures.nights)} working days: {figures.total()} answers in {seconds / 60:.1f} minutes"]
+    lines += [f"  {name}: {count}" for name, count in sorted(figures.faults.items())]
+    lines += [f"  compared besides: {count} {name}" for name, count in sorted(figures.compared.items())]
+    lines += [f"  {way}: {count}, in the middle {middle:.2f} ms, at most {most:.0f} ms"
+              for way, count, middle, most in figures.middles()]
+    return "\n".join(lines)
+
+
+def table(head, rows):
+    rule = "|" + "---|" * len(head)
+    return "\n".join(["| " + " | ".join(head) + " |", rule, *("| " + " | ".join(map(str, it)) + " |" for it in rows)])
+
+
+def kinds(figures):
+    """Each command and reading, how often it was done and how often refused."""
+    done, refused = collections.Counter(), collections.defaultdict(collections.Counter)
+    for (_, name, code), count in figures.answers.items():
+        if code == "done":
+            done[name] += count
+        else:
+            refused[name][code] += count
+    for name in sorted({*done, *refused}):
+        told_of = ", ".join(f"{code} {count}" for code, count in sorted(refused[name].items()))
+        yield f"`{name}`", done[name], told_of or "–"
+
+
+def ways(figures):
+    counts = collections.Counter()
+    for (way, _, code), count in figures.answers.items():
+        counts[way, code == "done"] += count
+    for way, name in WAYS.items():
+        yield name, counts[way, True], counts[way, False]
+
+
+def growth(figures):
+    """The nights, of which ten at most are told."""
+    step = max(1, len(figures.nights) // 10)
+    for at, requests, memory, file, log, home in figures.nights[::step]:
+        yield (day_of(at), requests, f"{memory / 1024:.1f}", f"{file / 2**20:.2f}", f"{log / 2**20:.2f}",
+               f"{1000 * home:.1f}")
+
+
+def day_of(at):
+    return (datetime.date(1970, 1, 1) + datetime.timedelta(days=at // 1440)).isoformat()
+
+
+def page(trial, given, seconds):
+    figures = trial.figures
+    last = figures.nights[-1]
+    return "\n\n".join([
+        "# A year of an office",
+        f"`trials/year --seed {given.seed} --days {given.days} --bench` writes this page. It ran {len(figures.nights)} working "
+        f"days of an office of fifty, from {day_of(figures.nights[0][0])} to {day_of(last[0])} by its own clock, in "
+        f"{seconds / 60:.1f} minutes on {os.cpu_count()} processors beside other work. What it does stands in "
+        "[its head](../trials/year).",
+        f"{figures.total()} answers were compared with those of [the rules told twice](../models/README.md), and "
+        + ", ".join(f"{count} {name}" for name, count in sorted(figures.compared.items()))
+        + f". Nothing differed. At its end there were {last[1]} requests.",
+        "## What was asked", table(("By", "Done", "Refused"), ways(figures)),
+        table(("What", "Done", "Refused"), kinds(figures)),
+        "`find` is a search on a page. A form that was answered by a page of its own counts once.",
+        "## What went wrong", table(("Fault", "How often"), sorted(figures.faults.items())),
+        "After each fault the desk went on with what was answered. A command without an answer was found done or not "
+        "done, and never half: a form of two commands can end between them.",
+        "## How long it took",
+        table(("Way", "Answers", "Middle, ms", "Slowest, ms"),
+              ((way, count, f"{middle:.2f}", f"{most:.0f}") for way, count, middle, most in figures.middles())),
+        "These are seconds of the clock as a client sees them, with the start of a process for `desk`, `desk_ask` and "
+        "`desk_load`, on tables in memory: no disk was waited for. A line of `desk_load` is a share of its run.",
+        "![Answers by hour](year-hours.svg)",
+        "## How it grew",
+        table(("Night of", "Requests", "Memory, MiB", "File, MiB", "Log, MiB", "Home, ms"), growth(figures)),
+        "Home is the first page of the one who sees all.",
+        "![Memory and file](year-growth.svg)", "![Home](year-home.svg)"]) + "\n"
+
+
+def pictures(figures):
+    hours = sorted(figures.by_hour.items())
+    yield "year-hours.svg", picture(
+        "Answers by the hour", "ms", "the hour of the day, UTC",
+        {"the middle": [(hour, 1000 * statistics.median(it)) for hour, it in hours],
+         "one in a hundred takes longer": [(hour, 1000 * sorted(it)[len(it) * 99 // 100]) for hour, it in hours]},
+        [(hour, hour) for hour, _ in hours])
+    nights = list(enumerate(figures.nights, 1))
+    ticks = [(day, day) for day, _ in nights[::max(1, len(nights) // 10)]]
+    yield "year-growth.svg", picture(
+        "Memory and file", "MiB", "working days",
+        {"memory": [(day, it[2] / 1024) for day, it in nights],
+         "file and log": [(day, (it[3] + it[4]) / 2**20) for day, it in nights]}, ticks)
+    yield "year-home.svg", picture(
+        "The first page as the desk grows", "ms", "requests",
+        {"of the one who sees all": [(it[1], 1000 * it[5]) for _, it in nights]},
+        [(it[1], it[1]) for _, it in nights[::max(1, len(nights) // 8)]])
+
+
+def write(trial, given, seconds):
+    texts = {"year.md": page(trial, given, seconds), **dict(pictures(trial.figures))}
+    for name, text in texts.items():
+        with open(os.path.join(TOP, "bench", name), "w", encoding="utf-8") as file:
+            file.write(text)

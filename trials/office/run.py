@@ -1,0 +1,265 @@
+"""One run of steps: the programs on the one side, the model on the other. Each answer is compared when it
+comes, and what a fault left undecided is found in the tables."""
+import os
+import statistics
+import time
+from concurrent.futures import ThreadPoolExecutor
+
+from office import expected, faults, kept, strange
+from office.asks import PAGES, Ask, form, numbered, spelled
+from office.crowd import Crowd
+from office.figures import Figures, outcome
+from office.known import Desk, Known
+from office.server import Programs, Server
+from office.settle import in_some_order, number_filed, wanted
+from office.ways import SPENT, Browser, Messages, Shell, hidden_of
+
+# how many clients a burst has at once
+SIDE_BY_SIDE = 500
+
+
+class Differs(Exception):
+    """What the programs answered, or kept, and what they had to."""
+
+
+class Trial:
+    def __init__(self, bins, room, crowd=True):
+        self.programs = Programs(bins, room)
+        self.server = Server(self.programs)
+        self.desk, self.tokens, self.numbers = None, {}, {}
+        self.figures, self.crowd, self.wants_crowd = Figures(), None, crowd
+        self.browser = self.messages = self.shell = None
+        self.pool = ThreadPoolExecutor(SIDE_BY_SIDE)
+
+    def run(self, steps):
+        """The place of the first step that differs, and what differs; or None."""
+        place = None
+        try:
+            for place, step in enumerate(steps):
+                self.programs.clock.set(step["at"])
+                getattr(self, "do_" + step["do"])(**{name: it for name, it in step.items() if name != "do"})
+        except Differs as what:
+            return place, str(what)
+        finally:
+            self.end()
+        return None
+
+    def end(self):
+        if self.crowd:
+            self.crowd.over.set()
+            self.crowd.join()
+            self.figures.faults["silent and slow clients"] += self.crowd.came
+            self.figures.faults["silent and slow clients cut off"] += self.crowd.cut
+        if self.server.runs():
+            self.server.kill(9)
+        self.pool.shutdown()
+
+    def need(self, what, given, wanted_of):
+        if given != wanted_of:
+            raise Differs(f"{what}: {shortened(given, wanted_of)} in place of {shortened(wanted_of, given)}")
+
+    # ---- the server
+
+    def up(self):
+        """The server runs, and each way leads to it."""
+        if self.server.runs():
+            return
+        if not self.server.start():
+            status, printed, errors = self.server.gone()
+            raise Differs(f"no start: {self.server.told!r} {printed!r} {errors!r}, status {status}")
+        self.browser = Browser(self.server.port, self.tokens)
+        self.messages = Messages(self.server.port, self.tokens)
+        self.shell = Shell(self.programs, self.server.port)
+        self.figures.faults["starts"] += 1
+        if self.wants_crowd and not self.crowd:
+            self.crowd = Crowd(self.server, next(iter(self.tokens.values())))
+            self.crowd.start()
+
+    def down(self):
+        """The server is asked to stop, by who may."""
+        if self.server.runs():
+            self.need("asked to stop", self.server.stop(self.tokens[self.admin()]), (b"stops\n", (0, b"", b"")))
+
+    def admin(self):
+        return next(it for it in self.tokens if self.desk.settings.holds(it, "SuperUser", ""))
+
+    # ---- steps
+
+    def do_settings(self, at, text):
+        self.down()
+        known = Known(text)
+        self.programs.write("settings.toml", text)
+        self.tokens = {person: word for word, person in known.tokens.items()}
+        for person, word in self.tokens.items():
+            self.programs.write(f"{person}.token", word)
+        if self.desk is None:
+            self.desk = Desk(known)
+        else:
+            self.desk.with_settings(known)
+            self.figures.faults["settings changed"] += 1
+        self.need("desk_load --check", self.programs.load(b"", "--check")[:2], ("nothing is wrong\n", 0))
+
+    def do_ask(self, at, ask):
+        self.up()
+        self.one(numbered(Ask.of(ask), self.numbers))
+
+    def one(self, ask):
+        """One ask, its answer and the model's."""
+        hidden = self.form_page(ask) if ask.way == "page" and not ask.reads else None
+        answer = self.answer(ask, hidden)
+        seconds = SPENT.seconds
+        told = self.told(ask)
+        self.need(f"{ask}", answer, told)
+        self.figures.answered(ask, outcome(answer), seconds)
+        if ask.name == "create" and number_filed(answer) and ask.key:
+            self.numbers[ask.key] = number_filed(answer)
+        if ask.way == "page" and answer[0] == 303 and answer[1] != "/":
+            self.page(ask, "request", answer[1], int(answer[1].rpartition("/")[2]))
+
+    def answer(self, ask, hidden=None):
+        if ask.way == "page":
+            return self.browser.reading(ask) if ask.reads else self.browser.post(ask, hidden)
+        return (self.messages if ask.way == "http" else self.shell).answer(ask)
+
+    def told(self, ask):
+        """What the model answers. It makes the step."""
+        if ask.way == "page" and ask.reads:
+            words = [expected.search_of(ask.words[0])] if ask.name == "find" else ask.words
+            return expected.by_page(self.desk, ask, PAGES[ask.name], *words)
+        return wanted(self.desk, ask)
+
+    def page(self, ask, name, path, *words):
+        """A page, compared; its reply."""
+        given = self.browser.page(ask.by, name, path)
+        self.figures.timed("page (read)", ask.at, SPENT.seconds)
+        self.need(f"{path} for {ask.by} at {ask.at}", given, expected.by_page(self.desk, ask, name, *words))
+        self.figures.compared["pages"] += 1
+        return given
+
+    def form_page(self, ask):
+        """The page on which the form stands is looked at before, and its hidden fields go with the form."""
+        path, _ = form(ask)
+        if ask.name == "queue":
+            page, name, words = "/", "home", []
+        elif ask.name == "create":
+            page, name, words = path, "new", [ask.words[0]]
+        else:
+            page, name, words = path.rpartition("/")[0], "request", [ask.words[0]]
+        self.page(ask, name, page, *words)
+        return hidden_of(self.browser.last, path)
+
+    # ---- many at once
+
+    def at_once(self, asks):
+        """The answers to asks that come at once. Everybody is signed in before."""
+        for by in sorted({it.by for it in asks if it.way == "page"}):
+            if by not in self.browser.cookies:
+                self.browser.sign_in(by)
+        return list(self.pool.map(self.timed, asks))
+
+    def timed(self, ask):
+        """The answer to an ask, and how long it took."""
+        answer = self.answer(ask)
+        return answer, SPENT.seconds
+
+    def do_together(self, at, asks):
+        """Two press at once: the answers are those of one order or of the other."""
+        self.up()
+        asks = [numbered(Ask.of(it), self.numbers) for it in asks]
+        answers = [answer for answer, _ in self.at_once(asks)]
+        first = in_some_order(self.desk, asks, answers)
+        if first is not None:
+            self.need(f"at once: {asks}", answers, first)
+        self.figures.faults["two at once"] += 1
+        for ask, answer in zip(asks, answers):
+            self.figures.answers[ask.way, ask.name, outcome(answer)] += 1
+
+    def do_burst(self, at, asks):
+        """Filings in the order of their numbers, then all else: none of it touches what another asks."""
+        self.up()
+        asks = [numbered(Ask.of(it), self.numbers) for it in asks]
+        answers = self.at_once(asks)
+        pairs = sorted(zip(asks, answers), key=lambda it: (number_filed(it[1][0]) or 0) if it[0].name == "create"
+                       else 1 << 32)
+        for ask, (answer, seconds) in pairs:
+            self.need(f"in a burst: {ask}", answer, self.told(ask))
+            self.figures.answers[ask.way, ask.name, outcome(answer)] += 1
+            self.figures.times["in a burst of 500"].append(seconds)
+            if ask.name == "create" and ask.key and number_filed(answer):
+                self.numbers[ask.key] = number_filed(answer)
+        self.figures.faults["bursts"] += 1
+
+    def do_strange(self, at, what, by):
+        self.up()
+        wrong = strange.try_one(self.server.port, self.tokens[by], what)
+        if wrong:
+            raise Differs(wrong)
+        self.figures.faults["strange messages"] += 1
+
+    # ---- what goes wrong, and the nights
+
+    def do_kill(self, at, asks, after):
+        faults.kill(self, [numbered(Ask.of(it), self.numbers) for it in asks], after)
+
+    def do_full(self, at, asks, pages):
+        faults.full(self, [numbered(Ask.of(it), self.numbers) for it in asks], pages)
+
+    def do_end(self, at, how):
+        faults.end(self, how)
+
+    def do_copy(self, at, by, lookers):
+        faults.copy(self, at, [it for it in lookers if it in self.tokens])
+
+    def do_load(self, at, asks, killed):
+        faults.load(self, [numbered(Ask.of(it), self.numbers) for it in asks], killed)
+
+    def do_file(self, at, asks):
+        """Commands on the file, while the server is down."""
+        self.down()
+        for table in asks:
+            ask = numbered(Ask.of(table), self.numbers)
+            began = time.monotonic()
+            answer = self.programs.command(ask, spelled(ask))
+            seconds = time.monotonic() - began
+            self.need(f"{ask}", answer, self.told(ask))
+            self.figures.answered(ask, outcome(answer), seconds)
+            if ask.name == "create" and ask.key and number_filed(answer):
+                self.numbers[ask.key] = number_filed(answer)
+
+    def do_night(self, at):
+        """All tables are those of the model: of a copy while it runs, or of the file while it stands still."""
+        self.up()
+        if len(self.figures.nights) % 3 == 2:
+            path = self.programs.path("desk.db")
+            memory = self.server.memory()
+            self.down()
+        else:
+            path = faults.copied(self)
+            memory = self.server.memory()
+        differs, rows = kept.difference(path, self.desk)
+        if differs:
+            raise Differs(f"the tables at night: {differs}")
+        self.figures.compared["rows of tables"] += rows
+        sizes = [os.path.getsize(it) if os.path.exists(it) else 0
+                 for it in (self.programs.path("desk.db"), self.programs.path("desk.db-wal"))]
+        self.figures.night(at, len(self.desk.requests), memory, *sizes, self.home(at))
+
+    def home(self, at):
+        """The middle time of some looks at the first page, by one who sees all."""
+        self.up()
+        times = []
+        ask = Ask(at, "page", self.admin(), "queues")
+        self.one(ask)
+        for _ in range(5):
+            self.browser.get(ask.by, "/")
+            times.append(SPENT.seconds)
+        return statistics.median(times)
+
+
+def shortened(value, beside, most=1500):
+    """What of a value differs from the other one, where both are facts of a page."""
+    both = [it[1] if isinstance(it, (tuple, list)) and len(it) == 2 and isinstance(it[1], dict) else None
+            for it in (value, beside)]
+    if None not in both and value[0] == beside[0]:
+        return repr({name: it for name, it in both[0].items() if both[1].get(name) != it})[:most]
+    return repr(value)[:most]
