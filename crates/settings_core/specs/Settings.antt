@@ -7,6 +7,7 @@ use Rattle.hours_core.specs.declared.level.Level.{Level}
 use Rattle.lifecycle_core.specs.declared.parts.Parts.{Parts}
 use Rattle.rights_core.specs.People as people
 use Rattle.rights_core.specs.declared.parts.Parts as rights
+use Rattle.settings_parts.specs.declared.people.Token.{Token}
 use Rattle.settings_core.specs.Named.{under}
 use Rattle.settings_core.specs.Tokens.{person_under}
 use Rattle.settings_core.specs.declared.named.Named.{Named}
@@ -47,6 +48,10 @@ level_named settings name = under name settings.levels
 -- the person of a token, if there is one
 abbrev pub person_of_token : Settings → List ℕ → Option (List ℕ)
 person_of_token settings token = person_under token settings.tokens
+
+-- all tokens with their persons
+abbrev pub tokens_of : Settings → List Token
+tokens_of settings = settings.tokens
 
 -- how many requests a desk may have
 abbrev pub request_limit : Settings → ℕ

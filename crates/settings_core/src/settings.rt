@@ -125,6 +125,13 @@ impl Settings {
             .map(|t| t.person.as_str())
     }
 
+    /// All tokens with their persons, in their order. Takes no memory.
+    pub fn tokens(&self) -> &[Token]
+        ensures { result.now ≡ words.tokens_of self.now }
+    {
+        self.tokens.as_slice()
+    }
+
     /// How many requests the desk may have.
     pub fn max_requests(&self) -> u32
         ensures { result ≡ words.request_limit self.now }
