@@ -20,7 +20,7 @@ abbrev pub IsTaken : {S C : Type 0} (g : Ghosts S) → (C → ℕ) → WebDesk S
 IsTaken g made old a new =
     (read : Result Request WireFault) × (copied : Bool)
     × (read ≢ Err NoMemory → IsReadOf a.message read)
-    × IsNote old.proxied (settings_of g old.desk) read a.reply a.note
+    × IsNote old.proxied (settings_of g old.desk) a.at read a.reply a.note
     × IsTold (control_of (settings_of g old.desk) read) copied a.reply
     × CopiesBy (control_of (settings_of g old.desk) read) copied (made old.copies) (made new.copies)
     × (new.stops ≡ (old.stops || is_stop (control_of (settings_of g old.desk) read)))

@@ -91,6 +91,7 @@ impl<S: Backend, C: Copies> server_core::Desk for WebDesk<S, C> {
             alloc,
             self.proxied,
             self.desk.settings(),
+            minute,
             &read,
             reply.bytes(),
         );

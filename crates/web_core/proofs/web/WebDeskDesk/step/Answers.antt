@@ -28,7 +28,7 @@ returns g c =
         c.read_sent-read.result,
         c.copy_if-copied.result,
         c.read_sent-read.ensures,
-        note_same c.args.self.now.proxied _ _ c.read_sent-read.result _
+        note_same c.args.self.now.proxied _ _ c.args.minute c.read_sent-read.result _
             (bytes_of c.answer_to-reply.result) c.note_on-note.result.items
             (c.settings-2.ensures ∙ left.same) c.bytes.ensures c.note_on-note.ensures,
         subst (λ (a : Control). IsTold a c.copy_if-copied.result (bytes_of c.answer_to-reply.result))
