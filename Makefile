@@ -102,6 +102,7 @@ models:
 	models/leaves
 	models/lots
 	models/made
+	models/cookies
 
 # Wrong rules, one at a time: each is noticed by a case. Two minutes.
 wrong:
