@@ -29,13 +29,12 @@ impl fmt::Display for Typed<'_> {
 }
 
 fn put_list<W: fmt::Write>(list: &Array, f: &mut fmt::Formatter<W>) -> fmt::Result {
-    let mut before = "[";
-    for value in list.iter().take(MOST_VALUES) {
-        write!(f, "{before}{}", Single { value })?;
-        before = ", ";
-    }
-    if list.is_empty() {
-        f.write_str("[")?;
+    f.write_str("[")?;
+    for (index, value) in list.iter().take(MOST_VALUES).enumerate() {
+        if index > 0 {
+            f.write_str(", ")?;
+        }
+        write!(f, "{}", Single { value })?;
     }
     f.write_str(if list.len() > MOST_VALUES {
         ", ..]"

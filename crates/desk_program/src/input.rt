@@ -33,6 +33,7 @@ pub(crate) struct Script<'i> {
 
 /// All that a reader has left, where that is at most 1,048,576 bytes. `TooLong` is answered after
 /// one byte more, and `Read` where a read failed or it was out of memory.
+#[tactic(auto, using(crate::proofs::ReadCounts::since_first, crate::proofs::ReadCounts::since_more))]
 pub(crate) fn take_input<R: Read>(
     alloc: Global,
     reader: &mut CountedReader<'_, R>,
@@ -71,7 +72,8 @@ fn take_some<R: Read>(
         taken.old.items taken.new.items result }
     ensures taken { ConsumesAtMost (left_in R.remaining reader.old)
         (left_in R.remaining reader.new) (form.input_limit + 1 - length taken.old.items) }
-    ensures reads { reads_of reader.new ≡ counted (reads_of reader.old) }
+    ensures reads { reads_of reader.new ≤ reads_of reader.old + 1 }
+    ensures asked { reads_of reader.new ≡ counted (reads_of reader.old) }
 {
     let mut chunk = [0u8; CHUNK];
     let room = CHUNK.min(MAX_INPUT + 1 - taken.len());

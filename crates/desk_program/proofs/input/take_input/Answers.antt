@@ -1,9 +1,10 @@
 -- the bytes taken so far are more than an input may have
 use Rattle.std.proofs.Common.{◌<◌, ◌+◌, ◌++◌, ◌∙◌, length, arith, rules}
 use Rattle.desk_program.specs.Input.{input_limit}
-use Rattle.stream_core.specs.Seen.{left_in}
+use Rattle.stream_core.specs.Seen.{left_in, reads_of}
 use Rattle.stream_core.proofs.ReaderLemmas.{consumes_at_most_both, consumes_both}
 use Rattle.desk_program.proofs.LongInput.{is_longer}
+use Rattle.desk_program.proofs.ReadCounts.{asked_more}
 use Rattle.desk_program.proofs.input.take_input.Goals as goal
 
 pub returns-then-len-gt-MAX_INPUT-clause-long : goal.returns-then-len-gt-MAX_INPUT-clause-long
@@ -55,3 +56,18 @@ returns-in-Ok-eq0-clause-left g c =
           c.take_some.ensures.taken (omega arith);
       reads = omega (arith, low, c.loop-turn.invariant.counted, c.take_some.ensures.reads);
     }
+
+pub returns-in-Err-clause-asked : goal.returns-in-Err-clause-asked
+returns-in-Err-clause-asked g c =
+    asked_more (reads_of c.args.reader.now) (reads_of c.loop-turn.reader)
+    (reads_of c.take_some.new.reader) c.loop-turn.invariant.since c.take_some.ensures.asked
+
+pub returns-then-len-gt-MAX_INPUT-clause-asked : goal.returns-then-len-gt-MAX_INPUT-clause-asked
+returns-then-len-gt-MAX_INPUT-clause-asked g c =
+    asked_more (reads_of c.args.reader.now) (reads_of c.loop-turn.reader)
+    (reads_of c.take_some.new.reader) c.loop-turn.invariant.since c.take_some.ensures.asked
+
+pub returns-in-Ok-eq0-clause-asked : goal.returns-in-Ok-eq0-clause-asked
+returns-in-Ok-eq0-clause-asked g c =
+    asked_more (reads_of c.args.reader.now) (reads_of c.loop-turn.reader)
+    (reads_of c.take_some.new.reader) c.loop-turn.invariant.since c.take_some.ensures.asked

@@ -1,5 +1,5 @@
 -- what was taken so far is what the reader has lost, and each turn took a byte by one read
-use Rattle.std.proofs.Common.{◌≤◌, ◌+◌, length}
+use Rattle.std.proofs.Common.{◌≤◌, ◌+◌, ◌-◌, ◌^◌, length, min}
 use Rattle.std.specs.Io.KnownBytes.{Consumes}
 use Rattle.stream_core.specs.Seen.{HaveOneReader, left_in, reads_of}
 use Rattle.desk_program.specs.Input.{input_limit}
@@ -13,4 +13,5 @@ invariant-loop-turn g l = record {
   within : length l.taken.items ≤ input_limit;
   turns : l.turn ≤ length l.taken.items;
   counted : reads_of l.reader ≤ reads_of l.initial.reader + l.turn;
+  since : min (reads_of l.initial.reader) (2 ^ 64 - 1) ≤ reads_of l.reader;
 }

@@ -18,13 +18,13 @@ loop-connection-init g c =
       left = left_same g.S.Store c.args.desk.now;
     }
 
-pub accept-requires-asked : goal.accept-requires-asked
-accept-requires-asked g c =
+pub accept-requires-clause-asked : goal.accept-requires-clause-asked
+accept-requires-clause-asked g c =
     let low : c.loop-connection._connection < c.args.count = search rules in
     omega (arith, low, c.loop-connection.invariant.asked)
 
-pub accept-requires-accepted : goal.accept-requires-accepted
-accept-requires-accepted g c =
+pub accept-requires-clause-accepted : goal.accept-requires-clause-accepted
+accept-requires-clause-accepted g c =
     let low : c.loop-connection._connection < c.args.count = search rules in
     omega (arith, low, c.loop-connection.invariant.accepted)
 
