@@ -158,8 +158,8 @@ class MariaDB(Server):
         self.run(*self.client(None), input=b"CREATE DATABASE rt CHARACTER SET utf8mb4;")
 
     def sql(self, text):
-        """By the rules of an old server, which take a date of zeros."""
-        super().sql("SET SESSION sql_mode = '';\n" + text)
+        """By the rules of an old server, which take a date of zeros, and with counting of any length."""
+        super().sql("SET SESSION sql_mode = '', max_recursive_iterations = 100000;\n" + text)
 
     def keep(self):
         dump = self.client("rt")
