@@ -81,7 +81,7 @@ def page(trial, given, seconds):
         "## How long it took",
         table(("Way", "Answers", "Middle, ms", "Slowest, ms"),
               ((way, count, f"{middle:.2f}", f"{most:.0f}") for way, count, middle, most in figures.middles())),
-        "These are seconds of the clock as a client sees them, with the start of a process for `desk`, `desk_ask` and "
+        "These are times of the clock as a client sees them, with the start of a process for `desk`, `desk_ask` and "
         "`desk_load`, on tables in memory: no disk was waited for. A line of `desk_load` is a share of its run.",
         "![Answers by hour](year-hours.svg)",
         "## How it grew",
