@@ -82,6 +82,7 @@ trials: desk
 	trials/serve
 	trials/kills
 	trials/full
+	trials/links
 	trials/pages
 	trials/web
 	trials/ask

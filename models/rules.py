@@ -1,5 +1,5 @@
 """The rules of the desk once more: who is refused what, what changes, and what readings tell. They
-are written from docs/PROFILE.md, docs/desk.md and docs/settings.md, and not from the crates.
+are written from docs/desk.md and docs/settings.md, and not from the crates.
 
 In each command the lines `refuse_if` and `self.need_..` are its conditions in their order. They
 stand after all that they look at, so that one may be left out, or two may change places, and what
