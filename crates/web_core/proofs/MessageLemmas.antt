@@ -95,26 +95,26 @@ by_control : (s : Settings) (sent : Sent) (copied expects : Bool) (read : Result
     (control : Control) (bytes : List ℕ) (old new : State) → expects ≡ false
     → TellsExpecting sent.1 expects → control ≡ control_by expects s read → Reads sent.1 read
     → TakenOn s sent.0 copied read control bytes old new → IsRepliedOn s sent bytes old new
-by_control s sent copied expects read control bytes old new no told is reads steps =
-    taken s sent copied read bytes old new (plain sent.1 expects no told) reads
+by_control s sent copied expects read control bytes old new unexpected told is reads steps =
+    taken s sent copied read bytes old new (plain sent.1 expects unexpected told) reads
     (subst (λ (c : Control). TakenOn s sent.0 copied read c bytes old new)
-    (nothing_else s read expects control no is) steps)
+    (nothing_else s read expects control unexpected is) steps)
 
 -- it asks nothing of the server itself, and was answered
 pub answered : (s : Settings) (sent : Sent) (copied expects : Bool) (read : Result Request WireFault)
     (bytes : List ℕ) (old new : State) → expects ≡ false → TellsExpecting sent.1 expects
     → Nothing ≡ control_by expects s read → Reads sent.1 read
     → SentStepsOn s sent.0 read bytes old new → IsRepliedOn s sent bytes old new
-answered s sent copied expects read bytes old new no told is reads steps =
-    by_control s sent copied expects read Nothing bytes old new no told is reads steps
+answered s sent copied expects read bytes old new unexpected told is reads steps =
+    by_control s sent copied expects read Nothing bytes old new unexpected told is reads steps
 
 -- it asks the server to stop
 pub stopped : (s : Settings) (sent : Sent) (copied expects : Bool) (read : Result Request WireFault)
     (bytes : List ℕ) (tables : State) → expects ≡ false → TellsExpecting sent.1 expects
     → Stop ≡ control_by expects s read → Reads sent.1 read → bytes ≡ bytes_of stop_reply
     → IsRepliedOn s sent bytes tables tables
-stopped s sent copied expects read bytes tables no told is reads replied =
-    by_control s sent copied expects read Stop bytes tables tables no told is reads
+stopped s sent copied expects read bytes tables unexpected told is reads replied =
+    by_control s sent copied expects read Stop bytes tables tables unexpected told is reads
     (leads_nowhere s _ tables (λ desk. (replied, refl)))
 
 -- it asks for a copy
@@ -122,8 +122,8 @@ pub copied_so : (s : Settings) (sent : Sent) (copied expects : Bool)
     (read : Result Request WireFault) (bytes : List ℕ) (tables : State) → expects ≡ false
     → TellsExpecting sent.1 expects → Copy ≡ control_by expects s read → Reads sent.1 read
     → bytes ≡ bytes_of (copy_told copied) → IsRepliedOn s sent bytes tables tables
-copied_so s sent copied expects read bytes tables no told is reads replied =
-    by_control s sent copied expects read Copy bytes tables tables no told is reads
+copied_so s sent copied expects read bytes tables unexpected told is reads replied =
+    by_control s sent copied expects read Copy bytes tables tables unexpected told is reads
     (leads_nowhere s _ tables (λ desk. (replied, refl)))
 
 -- it expects something
@@ -131,9 +131,9 @@ pub failed : (s : Settings) (sent : Sent) (expects : Bool) (bytes : List ℕ) (t
     → expects ≡ true → TellsExpecting sent.1 expects → bytes ≡ bytes_of expectation_failed
     → IsRepliedOn s sent bytes tables tables
 unfolding IsReplyTo
-failed s sent expects bytes tables yes told replied =
+failed s sent expects bytes tables expected told replied =
     let waits : IsExpecting sent.1 =
-    subst (λ (b : Bool). MatchBool b (IsExpecting sent.1) (¬ (IsExpecting sent.1))) yes told in
+    subst (λ (b : Bool). MatchBool b (IsExpecting sent.1) (¬ (IsExpecting sent.1))) expected told in
     leads_nowhere s (λ desk after. IsReplyTo s sent desk bytes after) tables
     (λ desk. inr (inl (waits, replied, refl)))
 
@@ -141,10 +141,10 @@ failed s sent expects bytes tables yes told replied =
 pub untold : (s : Settings) (read : Result Request WireFault) (expects : Bool) (control : Control)
     (copied : Bool) (bytes : List ℕ) → expects ≡ true → control ≡ control_by expects s read
     → IsTold control copied bytes
-untold s read true Nothing copied bytes yes is = tt
-untold s read true Stop copied bytes yes is = let no : Stop ≡ Nothing = is in cc
-untold s read true Copy copied bytes yes is = let no : Copy ≡ Nothing = is in cc
-untold s read false control copied bytes yes is = let no : false ≡ true = yes in cc
+untold s read true Nothing copied bytes expected is = tt
+untold s read true Stop copied bytes expected is = let unexpected : Stop ≡ Nothing = is in cc
+untold s read true Copy copied bytes expected is = let unexpected : Copy ≡ Nothing = is in cc
+untold s read false control copied bytes expected is = let unexpected : false ≡ true = expected in cc
 
 -- it is sent with its date
 pub sent_so : (s : Settings) (sent : Sent) (second : Option ℕ) (whole bytes : List ℕ) (old new : State)

@@ -13,7 +13,7 @@ use std::alloc::Global;
 
 /// The reply with the date of this second. As it is, where there is none, or no memory for it.
 pub(crate) fn with_date(alloc: Global, second: Option<u64>, reply: Reply) -> Reply
-    ensures { IsDatedAt second (bytes_of reply.entry) (bytes_of result) }
+    ensures { IsDatedAt second (bytes_of reply) (bytes_of result) }
 {
     match dated(alloc, second, reply.bytes()) {
         Some(bytes) => Reply::Made(bytes),
