@@ -1,9 +1,22 @@
 """What the trials of servers share: a client that sends messages and takes replies apart."""
 import contextlib
+import os
 import select
 import socket
+import sys
+import time
+
+from tally import TOP
+
+sys.path.append(os.path.join(TOP, "models"))
+import sessions
 
 TOKEN = "bob-token-0000000"
+
+
+def cookie_of(token, person, began=None, lasts=sessions.DAY):
+    """The cookie of one who signed in by the token: now, or at another minute since 1970."""
+    return sessions.cookie_of(token, person, (int(time.time()) // 60 if began is None else began) + lasts)
 
 
 def free_port():

@@ -48,7 +48,7 @@ def signing_in():
         expect("it leads to the page", browser.path(), AT)
         cookie = browser.cookies(visitor.origin)
         holds(f"the cookie is {cookie}", len(cookie) == 1 and cookie[0]["httpOnly"]
-              and cookie[0]["sameSite"] == "Strict" and not cookie[0]["session"])
+              and cookie[0]["sameSite"] == "Lax" and not cookie[0]["session"])
         expect("a script reads of it", browser.run("document.cookie"), "")
         browser = signed_in(visitor)
         expect("another cookie ends with the browser",

@@ -1,6 +1,10 @@
 """The parts that need no browser: the pages' heads and markup, texts that would be markup, and
 messages that no page of the desk sends."""
 import re
+import time
+
+from client import cookie_of
+from sessions import DAY, MONTH
 
 from browser import markup
 from browser.office import FREE, LAST, TALK, TOKENS, TRICKY
@@ -48,6 +52,8 @@ def heads(what, reply, kind=HTML):
     expect(f"{what}: its policy", reply.head("content-security-policy"), POLICY)
     expect(f"{what}: its referrer", reply.head("referrer-policy"), "same-origin")
     expect(f"{what}: its kind is certain", reply.head("x-content-type-options"), "nosniff")
+    expect(f"{what}: who opens it", reply.head("cross-origin-opener-policy"), "same-origin")
+    expect(f"{what}: who loads it", reply.head("cross-origin-resource-policy"), "same-origin")
     expect(f"{what}: the connection", reply.head("connection"), "close")
 
 
@@ -299,14 +305,23 @@ def methods():
 def cookies():
     """Who one is, by cookies and tokens; where signing in leads to."""
     with serving("cookies") as visitor:
-        token = TOKENS["bob"]
+        token, now = TOKENS["bob"], int(time.time()) // 60
+        mine, hers = cookie_of(token, "bob"), cookie_of(TOKENS["ann"], "ann")
         for what, lines, code in (
-            ("one among others", [f"Cookie: a=b; desk={token}; c"], 200),
-            ("lines of their own", ["Cookie: a=b", f"cookie:desk={token}"], 200),
-            ("two", [f"Cookie: desk={token}; desk={token}"], 403),
-            ("two lines", [f"Cookie: desk={token}", f"Cookie: desk={TOKENS['ann']}"], 403),
-            ("another name", [f"Cookie: desks={token}"], 403),
+            ("one among others", [f"Cookie: a=b; desk={mine}; c"], 200),
+            ("lines of their own", ["Cookie: a=b", f"cookie:desk={mine}"], 200),
+            ("two", [f"Cookie: desk={mine}; desk={mine}"], 403),
+            ("two lines", [f"Cookie: desk={mine}", f"Cookie: desk={hers}"], 403),
+            ("another name", [f"Cookie: desks={mine}"], 403),
             ("an unknown one", ["Cookie: desk=0123456789abcdef"], 403),
+            ("the token", [f"Cookie: desk={token}"], 403),
+            ("one of a month", [f"Cookie: desk={cookie_of(token, 'bob', now, MONTH)}"], 200),
+            ("one that ends in a minute", [f"Cookie: desk={cookie_of(token, 'bob', now - DAY + 2)}"], 200),
+            ("one that has ended", [f"Cookie: desk={cookie_of(token, 'bob', now - DAY)}"], 403),
+            ("one of more than a month", [f"Cookie: desk={cookie_of(token, 'bob', now, MONTH + 10)}"], 403),
+            ("another token's", [f"Cookie: desk={cookie_of(TOKENS['ann'], 'bob')}"], 403),
+            ("another person's code", [f"Cookie: desk={hers.replace('ann', 'bob', 1)}"], 403),
+            ("a code cut short", [f"Cookie: desk={mine[:-1]}"], 403),
             ("a token of the interface", [f"Desk-Token: {token}"], 403),
         ):
             reply = visitor.send("GET /", ["Host: 127.0.0.1", *lines])
@@ -315,19 +330,21 @@ def cookies():
         expect("a cookie at the interface", (told.code, told.text),
                (403, "refused 1 UnknownCaller\n"))
         kept, gone = "; Path=/; Max-Age=2592000", "desk=; Path=/; Max-Age=0"
-        ways = "; HttpOnly; SameSite=Strict"
-        for fields, cookie, to in (
-            ({"token": f" {token}\t", "next": "/desk/overdue"}, f"desk={token}; Path=/{ways}",
-             "/desk/overdue"),
-            ({"token": token, "next": "/", "keep": "yes"}, f"desk={token}{kept}{ways}", "/"),
-            *(({"token": token, "next": it}, f"desk={token}; Path=/{ways}", "/") for it in (
+        ways = "; HttpOnly; SameSite=Lax"
+        for fields, is_kept, to in (
+            ({"token": f" {token}\t", "next": "/desk/overdue"}, False, "/desk/overdue"),
+            ({"token": token, "next": "/", "keep": "yes"}, True, "/"),
+            *(({"token": token, "next": it}, False, "/") for it in (
                 "//evil.example", "https://evil.example/", "/desk/go", "/\\evil.example",
                 "/sign-out", "javascript:alert(1)", "/desk/requests/1/take", "")),
         ):
+            began = int(time.time()) // 60
             reply = visitor.post("/sign-in", fields, None)
-            expect(f"signing in with {fields}",
-                   (reply.code, reply.head("set-cookie"), reply.head("location")),
-                   (303, cookie, to))
+            expect(f"signing in with {fields}", (reply.code, reply.head("location")), (303, to))
+            # (the minute may have changed meanwhile)
+            holds(f"signing in with {fields} gives {reply.head('set-cookie')}", reply.head("set-cookie") in {
+                f"desk={cookie_of(token, 'bob', began + it, MONTH if is_kept else DAY)}"
+                f"{kept if is_kept else '; Path=/'}{ways}" for it in (0, 1)})
         reply = visitor.post("/sign-out", {})
         expect("signing out", (reply.code, reply.head("set-cookie"), reply.head("location")),
                (303, gone + ways, "/sign-in"))

@@ -3,7 +3,7 @@ would, or as it never would."""
 import urllib.parse
 from dataclasses import dataclass
 
-from client import ask
+from client import ask, cookie_of
 
 from browser.office import TOKENS
 
@@ -51,7 +51,7 @@ class Visitor:
         return reply_of(ask(self.port, head.encode() + b"\r\n" + (given or b"")))
 
     def lines_of(self, person, more=()):
-        cookie = [f"Cookie: desk={TOKENS[person]}"] if person else []
+        cookie = [f"Cookie: desk={cookie_of(TOKENS[person], person)}"] if person else []
         return [f"Host: 127.0.0.1:{self.port}", *cookie, *more]
 
     def get(self, path, person="bob", more=()):

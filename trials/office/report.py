@@ -68,7 +68,7 @@ def page(trial, given, seconds):
         f"`trials/year --seed {given.seed} --days {given.days} --bench` writes this page. It ran {len(figures.nights)} working "
         f"days of an office of fifty, from {day_of(figures.nights[0][0])} to {day_of(last[0])} by its own clock, in "
         f"{seconds / 60:.1f} minutes on {os.cpu_count()} processors beside other work. What it does stands in "
-        "[its head](../trials/year).",
+        "[its head](../trials/year), and [words](../docs/words.md) has the words.",
         f"{figures.total()} answers were compared with those of [the rules told twice](../models/README.md), and "
         + ", ".join(f"{count} {name}" for name, count in sorted(figures.compared.items()))
         + f". Nothing differed. At its end there were {last[1]} requests.",

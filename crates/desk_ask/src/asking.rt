@@ -4,6 +4,7 @@ use crate::Ended;
 use crate::options::Server;
 use crate::proxied::{Seen, seen_in};
 use client_core::{Answered, answer_in};
+use http_rules::undated_reply;
 use std::io::{self, Read, Write};
 use std::net::TcpStream;
 use std::time::Duration;
@@ -23,7 +24,10 @@ const PATIENCE: u64 = 60;
 /// How a reply of a desk begins, up to its code.
 const FIRST: &[u8] = b"HTTP/1.1 ";
 
-/// What stands in it behind its first line.
+/// What may stand behind its first line.
+const DATE: &[u8] = b"\r\nDate: ";
+
+/// What stands behind that, or behind its first line.
 const NEXT: &[u8] = b"\r\nContent-Type: text/plain; charset=utf-8\r\nContent-Length: ";
 
 /// Sends the message to the server, prints the text of its reply, and gives the exit status.
@@ -38,6 +42,9 @@ pub fn ask(rt: &HostRuntime, server: &Server, message: &[u8]) -> Result<u8, Ende
     // a server may answer and close before it has read all
     let _sent = stream.write_all(message);
     let reply = reply_of(rt, &mut stream)?;
+    let Ok(reply) = undated_reply(rt.alloc(), reply.as_slice()) else {
+        return Err(Ended::NoMemory);
+    };
     let reply = reply.as_slice();
     match answer_in(rt.alloc(), reply) {
         Ok(Some(told)) => Ok(print(rt, told)),
@@ -100,7 +107,8 @@ fn has_head(bytes: &[u8]) -> bool {
 
 /// What is wrong with a reply that is none of a desk: it ends too soon, if it begins as one.
 fn fault_of(bytes: &[u8]) -> Ended {
-    if begins_alike(bytes, FIRST) && begins_alike(behind_line(bytes), NEXT) {
+    let rest = behind_line(bytes);
+    if begins_alike(bytes, FIRST) && (begins_alike(rest, NEXT) || begins_alike(rest, DATE)) {
         Ended::NoReply
     } else {
         Ended::NoDesk

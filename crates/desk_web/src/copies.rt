@@ -4,37 +4,11 @@ use sqlite::Connection;
 use std::alloc::{AllocError, Global};
 use std::fs::{self, File};
 use std::io::ErrorKind;
-use web_core::Copies;
-
-/// What copies a file of tables to a place, if there is one.
-#[derive(Clone, Copy)]
-pub struct FileCopies<'w> {
-    pub rt: &'w HostRuntime,
-    pub tables: &'w str,
-    pub place: Option<&'w str>,
-    /// How many copies it has made.
-    pub made: u64,
-}
-
-impl Copies for FileCopies<'_> {
-    ghost made = { λ copies. copies.made };
-
-    fn copy(&mut self) -> bool {
-        let copied = match self.place {
-            Some(place) => copy_to(self.rt, self.tables, place).is_some(),
-            None => false,
-        };
-        if copied {
-            self.made = self.made.saturating_add(1);
-        }
-        copied
-    }
-}
 
 /// Copies the file and its log, makes one file of them, asks the disk to keep it, and puts it in its
 /// place. What stands there is the copy before or this one, whole, and no log beside it. None where
 /// anything failed, and where a name that is written here is that of the tables.
-fn copy_to(rt: &HostRuntime, tables: &str, place: &str) -> Option<()> {
+pub fn copy_to(rt: &HostRuntime, tables: &str, place: &str) -> Option<()> {
     let log = with_end(rt.alloc(), tables, "-wal").ok()?;
     let part = with_end(rt.alloc(), place, ".part").ok()?;
     let part_log = with_end(rt.alloc(), place, ".part-wal").ok()?;

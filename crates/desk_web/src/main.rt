@@ -5,6 +5,7 @@ mod copies;
 mod files;
 mod options;
 mod server;
+mod system;
 mod tables;
 mod usage;
 

@@ -5,10 +5,12 @@
 //! What owns much is given back by `drop`, whose proof stands once; at the end of its scope it
 //! would be taken apart for each function's own proof.
 
+mod codes;
 mod forms;
 mod lifecycles;
 mod words;
 
+use crate::calls::codes::hmac_answer;
 use crate::calls::forms::form_answer;
 use crate::calls::lifecycles::lifecycle_answer;
 use crate::calls::words::{command_answer, words_answer};
@@ -56,6 +58,9 @@ fn called(
     let Ok(words) = words_of(alloc, rest) else {
         return String::from_str(alloc, "bad quotes");
     };
+    if call == "hmac" {
+        return Ok(hmac_answer(alloc, words.as_slice())?.unwrap_or(String::new(alloc)));
+    }
     match form_answer(alloc, call, words.as_slice())? {
         Some(answer) => Ok(answer),
         None => lifecycle_answer(alloc, lifecycle, call, words.as_slice()),

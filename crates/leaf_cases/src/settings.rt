@@ -6,6 +6,7 @@
 //! would be taken apart for each function's own proof.
 
 mod changed;
+mod sessions;
 
 use crate::questions;
 use case_text::{Answering, Case, CaseFault, answer_lines};
@@ -43,6 +44,7 @@ impl Answering for Asked<'_> {
     /// Answers a question to the settings, or to the changed text.
     fn answer(&mut self, alloc: Global, out: &mut String, line: &str) -> Result<(), CaseFault> {
         questions::ask(alloc, out, &self.settings, line)?;
+        sessions::ask(alloc, out, &self.settings, line)?;
         Ok(changed::ask(alloc, out, self.text, line)?)
     }
 }

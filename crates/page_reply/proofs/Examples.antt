@@ -18,20 +18,20 @@ cookie_that_stays_as_it_is = refl
 
 cookie_of_a_session :
     cookie_line (Session (codes "abc"))
-    ≡ codes "Set-Cookie: desk=abc; Path=/; HttpOnly; SameSite=Strict\r\n"
+    ≡ codes "Set-Cookie: desk=abc; Path=/; HttpOnly; SameSite=Lax\r\n"
 unfolding session_line
 cookie_of_a_session = refl
 
 -- thirty days
 cookie_that_outlasts_it :
     cookie_line (Stay (codes "abc"))
-    ≡ codes "Set-Cookie: desk=abc; Path=/; Max-Age=2592000; HttpOnly; SameSite=Strict\r\n"
+    ≡ codes "Set-Cookie: desk=abc; Path=/; Max-Age=2592000; HttpOnly; SameSite=Lax\r\n"
 unfolding stay_line
 cookie_that_outlasts_it = refl
 
 cookie_that_goes :
     cookie_line Forget
-    ≡ codes "Set-Cookie: desk=; Path=/; Max-Age=0; HttpOnly; SameSite=Strict\r\n"
+    ≡ codes "Set-Cookie: desk=; Path=/; Max-Age=0; HttpOnly; SameSite=Lax\r\n"
     ++ codes "Clear-Site-Data: \"cache\"\r\n"
 unfolding forget_line
 cookie_that_goes = refl
@@ -74,7 +74,9 @@ guards =
     codes "Cache-Control: no-store\r\nContent-Security-Policy: default-src 'none'; "
     ++ (codes "style-src 'self'; form-action 'self'; frame-ancestors 'none'; base-uri 'none'\r\n"
     ++ (codes "Referrer-Policy: same-origin\r\nX-Content-Type-Options: nosniff\r\n"
-    ++ codes "Connection: close\r\n\r\n"))
+    ++ (codes "Cross-Origin-Opener-Policy: same-origin\r\n"
+    ++ (codes "Cross-Origin-Resource-Policy: same-origin\r\n"
+    ++ codes "Connection: close\r\n\r\n"))))
 
 bytes_of_a_page :
     bytes_of page
@@ -100,7 +102,7 @@ bytes_of_a_signing_in :
       page = [];
     })
     ≡ codes "HTTP/1.1 303 See Other\r\nContent-Type: text/html; charset=utf-8\r\n"
-    ++ (codes "Content-Length: 0\r\nSet-Cookie: desk=abc; Path=/; HttpOnly; SameSite=Strict\r\n"
+    ++ (codes "Content-Length: 0\r\nSet-Cookie: desk=abc; Path=/; HttpOnly; SameSite=Lax\r\n"
     ++ (codes "Location: /desk/\r\n" ++ guards))
 unfolding status_line content_type_line content_length_line last_line page_kind own_lines session_line leads_line allow_line guard_lines digits
 bytes_of_a_signing_in = refl

@@ -9,11 +9,11 @@ use Rattle.page_reply.specs.PageReply.{allow_line, guard_lines, leads_line, own_
 use Rattle.page_reply.specs.PageReply.{way_to}
 use Rattle.page_reply.specs.declared.reply.CookieChange.TheVariants.{Keep}
 
-start_is_short : length (head_start 303 page_kind 0) ≤ 100
+start_is_short : length (head_start 303 page_kind 0) ≤ 83
 unfolding status_line content_type_line content_length_line page_kind digits
 start_is_short = lit≤ tt
 
-guard_is_short : length guard_lines ≤ 250
+guard_is_short : length guard_lines ≤ 296
 unfolding guard_lines
 guard_is_short = lit≤ tt
 
@@ -29,7 +29,7 @@ own_length : (place : List ℕ) → length (own_lines Keep (Some place) None) �
 unfolding own_lines allow_line
 own_length place = omega (arith, place_line_length place, length-append (leads_line place) [])
 
-pub way_is_short : (place : List ℕ) → length (way_to place) ≤ 383 + length place
+pub way_is_short : (place : List ℕ) → length (way_to place) ≤ 412 + length place
 way_is_short place =
     let own = own_lines Keep (Some place) None in
     omega (

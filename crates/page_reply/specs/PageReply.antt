@@ -12,26 +12,27 @@ use Rattle.page_reply.specs.declared.reply.PageReply.{PageReply as Given}
 unfoldable pub page_kind : List ℕ
 page_kind = codes "text/html; charset=utf-8"
 
--- a cookie goes with no message that another site makes, and no script reads it
+-- a cookie goes with no message that another site makes, but for one that opens a page, and no
+-- script reads it
 unfoldable pub session_line : List ℕ → List ℕ
-session_line token =
-    codes "Set-Cookie: desk=" ++ (token ++ codes "; Path=/; HttpOnly; SameSite=Strict\r\n")
+session_line text =
+    codes "Set-Cookie: desk=" ++ (text ++ codes "; Path=/; HttpOnly; SameSite=Lax\r\n")
 
 unfoldable pub stay_line : List ℕ → List ℕ
-stay_line token =
+stay_line text =
     codes "Set-Cookie: desk="
-    ++ (token ++ codes "; Path=/; Max-Age=2592000; HttpOnly; SameSite=Strict\r\n")
+    ++ (text ++ codes "; Path=/; Max-Age=2592000; HttpOnly; SameSite=Lax\r\n")
 
 -- no page that was seen is kept either, for whoever goes back
 unfoldable pub forget_line : List ℕ
 forget_line =
-    codes "Set-Cookie: desk=; Path=/; Max-Age=0; HttpOnly; SameSite=Strict\r\n"
+    codes "Set-Cookie: desk=; Path=/; Max-Age=0; HttpOnly; SameSite=Lax\r\n"
     ++ codes "Clear-Site-Data: \"cache\"\r\n"
 
 abbrev pub cookie_line : CookieChange → List ℕ
 cookie_line Keep = []
-cookie_line (Session token) = session_line token
-cookie_line (Stay token) = stay_line token
+cookie_line (Session text) = session_line text
+cookie_line (Stay text) = stay_line text
 cookie_line Forget = forget_line
 
 unfoldable pub leads_line : List ℕ → List ℕ
@@ -47,12 +48,15 @@ allow_line (Some Get) = codes "Allow: GET, HEAD\r\n"
 allow_line (Some GetAndPost) = codes "Allow: GET, HEAD, POST\r\n"
 
 -- no page is kept; nothing but styles of the desk's own is loaded, forms go to the desk alone, no
--- page frames it; and the desk alone is told where a form stood
+-- page frames it; the desk alone is told where a form stood; and no page of another site that opens
+-- it learns anything of it
 unfoldable pub guard_lines : List ℕ
 guard_lines =
     codes "Cache-Control: no-store\r\nContent-Security-Policy: default-src 'none'; style-src 'self'; "
     ++ (codes "form-action 'self'; frame-ancestors 'none'; base-uri 'none'\r\n"
-    ++ codes "Referrer-Policy: same-origin\r\nX-Content-Type-Options: nosniff\r\n")
+    ++ (codes "Referrer-Policy: same-origin\r\nX-Content-Type-Options: nosniff\r\n"
+    ++ (codes "Cross-Origin-Opener-Policy: same-origin\r\n"
+    ++ codes "Cross-Origin-Resource-Policy: same-origin\r\n")))
 
 -- the lines of one reply: what it does to the cookie, where it leads, and the methods
 unfoldable pub own_lines : CookieChange → Option (List ℕ) → Option Methods → List ℕ

@@ -13,9 +13,9 @@ use text_core::{Sequence, Text};
 #[derive(Drop)]
 pub enum CookieChange {
     Keep,
-    /// It is this token until the browser ends.
+    /// It is this one until the browser ends.
     Session(Text),
-    /// It is this token for 30 days.
+    /// It is this one for 30 days.
     Stay(Text),
     /// It goes, and the pages that the browser keeps.
     Forget,
@@ -113,33 +113,33 @@ fn add_cookie_line(out: &mut Vec<u8>, cookie: &CookieChange) -> Result<(), Alloc
 {
     match cookie {
         CookieChange::Keep => Ok(()),
-        CookieChange::Session(token) => add_session_line(out, token.as_str()),
-        CookieChange::Stay(token) => add_stay_line(out, token.as_str()),
+        CookieChange::Session(text) => add_session_line(out, text.as_str()),
+        CookieChange::Stay(text) => add_stay_line(out, text.as_str()),
         CookieChange::Forget => add_forget_line(out),
     }
 }
 
 #[tactic(auto, unfolding(crate::specs::PageReply::session_line))]
-fn add_session_line(out: &mut Vec<u8>, token: &str) -> Result<(), AllocError>
-    ensures { OnOk result (out.new.items ≡ out.old.items ++ form.session_line token.now) }
+fn add_session_line(out: &mut Vec<u8>, text: &str) -> Result<(), AllocError>
+    ensures { OnOk result (out.new.items ≡ out.old.items ++ form.session_line text.now) }
 {
     add_three(
         out,
         "Set-Cookie: desk=",
-        token,
-        "; Path=/; HttpOnly; SameSite=Strict\r\n",
+        text,
+        "; Path=/; HttpOnly; SameSite=Lax\r\n",
     )
 }
 
 #[tactic(auto, unfolding(crate::specs::PageReply::stay_line))]
-fn add_stay_line(out: &mut Vec<u8>, token: &str) -> Result<(), AllocError>
-    ensures { OnOk result (out.new.items ≡ out.old.items ++ form.stay_line token.now) }
+fn add_stay_line(out: &mut Vec<u8>, text: &str) -> Result<(), AllocError>
+    ensures { OnOk result (out.new.items ≡ out.old.items ++ form.stay_line text.now) }
 {
     add_three(
         out,
         "Set-Cookie: desk=",
-        token,
-        "; Path=/; Max-Age=2592000; HttpOnly; SameSite=Strict\r\n",
+        text,
+        "; Path=/; Max-Age=2592000; HttpOnly; SameSite=Lax\r\n",
     )
 }
 
@@ -149,7 +149,7 @@ fn add_forget_line(out: &mut Vec<u8>) -> Result<(), AllocError>
 {
     add_text(
         out,
-        "Set-Cookie: desk=; Path=/; Max-Age=0; HttpOnly; SameSite=Strict\r\n\
+        "Set-Cookie: desk=; Path=/; Max-Age=0; HttpOnly; SameSite=Lax\r\n\
          Clear-Site-Data: \"cache\"\r\n",
     )
 }
@@ -187,7 +187,9 @@ fn guard_lines() -> &'static str
 {
     "Cache-Control: no-store\r\nContent-Security-Policy: default-src 'none'; style-src 'self'; \
      form-action 'self'; frame-ancestors 'none'; base-uri 'none'\r\n\
-     Referrer-Policy: same-origin\r\nX-Content-Type-Options: nosniff\r\n"
+     Referrer-Policy: same-origin\r\nX-Content-Type-Options: nosniff\r\n\
+     Cross-Origin-Opener-Policy: same-origin\r\n\
+     Cross-Origin-Resource-Policy: same-origin\r\n"
 }
 
 /// Puts three texts at the end.

@@ -8,13 +8,14 @@ use Rattle.desk_forms.specs.declared.table.Form.TheVariants as forms
 use Rattle.desk_model.specs.declared.command.Command.TheVariants as command
 use Rattle.find_core.specs.declared.search.Place as find
 use Rattle.find_form.specs.declared.shown.Start.TheVariants.{First, After, Before}
+use Rattle.session_core.specs.declared.session.Lasts.TheVariants.{Day, Month}
 use Rattle.page_routes.specs.Faults.{name_of, number_of, status_of}
 use Rattle.page_routes.specs.Filled.{filled, names_in, needed, others}
 use Rattle.page_routes.specs.Paths.{path_of, reply_path}
 use Rattle.page_routes.specs.Places.{act_named, behind, fixed, is_page_path, method_named, path_in}
 use Rattle.page_routes.specs.Places.{queue_page, takes_post}
 use Rattle.page_routes.specs.Visits.{acted, asked_at, asked_by, form_of, going, page_or_home, sent_on}
-use Rattle.page_routes.specs.Visits.{signed}
+use Rattle.page_routes.specs.Visits.{is_search, lasts_of, signed_by}
 use Rattle.page_routes.specs.declared.fault.PageFault.TheVariants.{NoRoute, BadMethod, OtherSite}
 use Rattle.page_routes.specs.declared.fault.PageFault.TheVariants.{BadBody}
 use Rattle.page_routes.specs.declared.page.Page.TheVariants as pages
@@ -188,11 +189,23 @@ page_of_an_address = refl
 place_that_is_no_page : page_or_home (Some places.SignOut) ≡ pages.Home
 place_that_is_no_page = refl
 
-unknown_token : signed None true pages.Overdue ≡ visits.NotSignedIn pages.Overdue
+unknown_token : signed_by None true pages.Overdue ≡ visits.NotSignedIn pages.Overdue
 unknown_token = refl
 
-known_token : signed (Some (codes "secret")) true pages.Home ≡ visits.SignedIn (codes "secret") true pages.Home
+known_token : signed_by (Some (codes "ann.1.0a")) true pages.Home ≡ visits.SignedIn (codes "ann.1.0a") true pages.Home
 known_token = refl
+
+kept_for_a_month : lasts_of true ≡ Month
+kept_for_a_month = refl
+
+not_kept_for_more_than_a_day : lasts_of false ≡ Day
+not_kept_for_more_than_a_day = refl
+
+search_is_one : is_search (pages.Find (codes "words=jam") First) ≡ true
+search_is_one = refl
+
+queue_is_no_search : is_search (pages.Queue (codes "it")) ≡ false
+queue_is_no_search = refl
 
 request_by_its_number : going (field (codes "number") (codes "7") ∷ []) ≡ Ok (visits.Go 7)
 request_by_its_number = refl

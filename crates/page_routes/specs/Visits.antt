@@ -1,10 +1,13 @@
 -- What a message asks of the pages.
 use Rattle.std.specs.Prelude.{ℕ, Bool, true, false, if◌then◌else◌, List, [], ◌∷◌, codes}
-use Rattle.std.specs.Prelude.{Option, Some, None, Result, Ok, Err, is_some, unwrap_or}
+use Rattle.std.specs.Prelude.{Option, Some, None, Result, Ok, Err, unwrap_or}
 use Rattle.std.specs.Option.{option_and_then}
+use Rattle.hours_core.specs.Moment.{is_due_moment}
 use Rattle.desk_model.specs.declared.command.Command.{Command}
-use Rattle.settings_core.specs.Settings.{person_of_token}
 use Rattle.settings_core.specs.declared.settings.Settings.{Settings}
+use Rattle.session_core.specs.Sessions as sessions
+use Rattle.session_core.specs.declared.session.Lasts.{Lasts}
+use Rattle.session_core.specs.declared.session.Lasts.TheVariants.{Day, Month}
 use Rattle.message_core.specs.declared.message.Message.{Message}
 use Rattle.browser_core.specs.Cookie.{cookie_token}
 use Rattle.browser_core.specs.Form.{fields_of, has, has_fields, value_of}
@@ -41,10 +44,13 @@ Answer = Result Visit PageFault
 
 -- ---- who asks
 
--- the person of the cookie, if it holds a token of the settings
-abbrev pub caller_of : Settings → Lines → Option (List ℕ)
-caller_of settings lines =
-    option_and_then (person_of_token settings) (cookie_token (lines (codes "Cookie")))
+abbrev pub caller_by : Settings → ℕ → Option (List ℕ) → Option (List ℕ)
+caller_by settings at None = None
+caller_by settings at (Some cookie) = sessions.caller_of settings cookie at
+
+-- the person for whom the cookie stands at a minute
+abbrev pub caller_of : Settings → ℕ → Lines → Option (List ℕ)
+caller_of settings at lines = caller_by settings at (cookie_token (lines (codes "Cookie")))
 
 abbrev pub is_own : Lines → Bool
 is_own lines =
@@ -52,17 +58,29 @@ is_own lines =
 
 -- ---- GET
 
+abbrev pub is_search : Page → Bool
+is_search (pages.Find query start) = true
+is_search page = false
+
+-- a search that another site opens is looked at by nobody
+abbrev pub searcher : Settings → ℕ → Lines → Option (List ℕ)
+searcher settings at lines = if is_own lines then caller_of settings at lines else None
+
+abbrev pub looker : Settings → ℕ → Lines → Page → Option (List ℕ)
+looker settings at lines page =
+    if is_search page then searcher settings at lines else caller_of settings at lines
+
 abbrev pub looked : Page → Option (List ℕ) → Visit
 looked page None = visits.Unknown page true
 looked page (Some caller) = visits.Look caller page
 
 -- a place that only takes POST leads to where its form stands
-abbrev pub got : Settings → Lines → Place → Visit
-got settings lines places.Style = visits.Style
-got settings lines places.SignIn = visits.SignIn
-got settings lines (places.Page page) = looked page (caller_of settings lines)
-got settings lines (places.Act act id) = visits.Leads (pages.Request id)
-got settings lines _ = visits.Leads pages.Home
+abbrev pub got : Settings → ℕ → Lines → Place → Visit
+got settings at lines places.Style = visits.Style
+got settings at lines places.SignIn = visits.SignIn
+got settings at lines (places.Page page) = looked page (looker settings at lines page)
+got settings at lines (places.Act act id) = visits.Leads (pages.Request id)
+got settings at lines _ = visits.Leads pages.Home
 
 -- ---- signing in
 
@@ -74,25 +92,37 @@ page_or_home _ = pages.Home
 abbrev pub next_in : List Field → Page
 next_in fields = page_or_home (place_at (unwrap_or (value_of (codes "next") fields) []))
 
-abbrev pub if_known : Settings → List ℕ → Option (List ℕ)
-if_known settings token = if is_some (person_of_token settings token) then Some token else None
+-- what was typed, without spaces and tabs round it
+abbrev pub token_in : List Field → Option (List ℕ)
+token_in fields = text_in (trimmed (unwrap_or (value_of (codes "token") fields) []))
 
--- what was typed, without spaces and tabs round it, where it is a token of the settings
-abbrev pub token_in : Settings → List Field → Option (List ℕ)
-token_in settings fields =
-    option_and_then (if_known settings)
-    (text_in (trimmed (unwrap_or (value_of (codes "token") fields) [])))
+abbrev pub lasts_of : Bool → Lasts
+lasts_of keep = if keep then Month else Day
 
-abbrev pub signed : Option (List ℕ) → Bool → Page → Visit
-signed None keep next = visits.NotSignedIn next
-signed (Some token) keep next = visits.SignedIn token keep next
+-- the cookie of what was typed, where it is a token of the settings
+abbrev pub cookie_by : Settings → ℕ → Bool → Option (List ℕ) → Option (List ℕ)
+cookie_by settings at keep None = None
+cookie_by settings at keep (Some token) = sessions.signed_in settings token at (lasts_of keep)
 
-abbrev pub signing : Settings → Option (List Field) → Answer
-signing settings None = Err BadBody
-signing settings (Some fields) =
+abbrev pub signed_by : Option (List ℕ) → Bool → Page → Visit
+signed_by None keep next = visits.NotSignedIn next
+signed_by (Some cookie) keep next = visits.SignedIn cookie keep next
+
+abbrev pub signed_at : Settings → ℕ → List Field → Visit
+signed_at settings at fields =
+    signed_by (cookie_by settings at (has fields (codes "keep")) (token_in fields))
+    (has fields (codes "keep")) (next_in fields)
+
+-- only at a moment of the desk
+abbrev pub signed : Settings → ℕ → List Field → Visit
+signed settings at fields =
+    if is_due_moment at then signed_at settings at fields else visits.NoMoment
+
+abbrev pub signing : Settings → ℕ → Option (List Field) → Answer
+signing settings at None = Err BadBody
+signing settings at (Some fields) =
     if has_fields (codes "token" ∷ codes "next" ∷ []) (codes "keep" ∷ []) fields
-    then Ok (signed (token_in settings fields) (has fields (codes "keep")) (next_in fields))
-    else Err BadBody
+    then Ok (signed settings at fields) else Err BadBody
 
 -- ---- commands
 
@@ -149,30 +179,30 @@ asked_by place (Some caller) (Some fields) = asked_at caller place fields
 
 -- ---- POST
 
-abbrev pub posted : Settings → Lines → List ℕ → Place → Answer
-posted settings lines body places.SignIn = signing settings (fields_of body)
-posted settings lines body places.SignOut = Ok visits.SignOut
-posted settings lines body place = asked_by place (caller_of settings lines) (fields_of body)
+abbrev pub posted : Settings → ℕ → Lines → List ℕ → Place → Answer
+posted settings at lines body places.SignIn = signing settings at (fields_of body)
+posted settings at lines body places.SignOut = Ok visits.SignOut
+posted settings at lines body place = asked_by place (caller_of settings at lines) (fields_of body)
 
-abbrev pub posted_from : Settings → Lines → List ℕ → Place → Answer
-posted_from settings lines body place =
-    if is_own lines then posted settings lines body place else Err OtherSite
+abbrev pub posted_from : Settings → ℕ → Lines → List ℕ → Place → Answer
+posted_from settings at lines body place =
+    if is_own lines then posted settings at lines body place else Err OtherSite
 
 -- ---- a message
 
 -- the method comes first, and then, of a post, whose it is
-abbrev pub visited : Settings → Lines → List ℕ → Place → Option Method → Answer
-visited settings lines body place None = Err (BadMethod (takes_post place))
-visited settings lines body place (Some Get) = Ok (got settings lines place)
-visited settings lines body place (Some Post) =
-    if takes_post place then posted_from settings lines body place else Err (BadMethod false)
+abbrev pub visited : Settings → ℕ → Lines → List ℕ → Place → Option Method → Answer
+visited settings at lines body place None = Err (BadMethod (takes_post place))
+visited settings at lines body place (Some Get) = Ok (got settings at lines place)
+visited settings at lines body place (Some Post) =
+    if takes_post place then posted_from settings at lines body place else Err (BadMethod false)
 
-abbrev pub visited_at : Settings → Message → Lines → Option Place → Answer
-visited_at settings message lines None = Err NoRoute
-visited_at settings message lines (Some place) =
-    visited settings lines message.body place (method_named message.method)
+abbrev pub visited_at : Settings → ℕ → Message → Lines → Option Place → Answer
+visited_at settings at message lines None = Err NoRoute
+visited_at settings at message lines (Some place) =
+    visited settings at lines message.body place (method_named message.method)
 
--- what a message with these header lines asks of the pages, or its fault
-abbrev pub visit_of : Settings → Message → Lines → Answer
-visit_of settings message lines =
-    visited_at settings message lines (place_at message.target)
+-- what a message with these header lines asks of the pages at a minute, or its fault
+abbrev pub visit_of : Settings → ℕ → Message → Lines → Answer
+visit_of settings at message lines =
+    visited_at settings at message lines (place_at message.target)

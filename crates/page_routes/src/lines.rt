@@ -1,11 +1,10 @@
 //! What the header lines of a message say of who asks.
 
 ghost use Rattle.std.specs.Prelude.{◌≡◌, [], IfOk};
-ghost use Rattle.std.specs.Option.{option_and_then, option_map};
+ghost use Rattle.std.specs.Option.{option_map};
 ghost use Rattle.httparse.specs.Grammar.{RequestHead};
 ghost use Rattle.message_core.specs.Head.{StartsWith};
 ghost use Rattle.message_core.specs.Request.{values_in};
-ghost use Rattle.settings_core.specs.Settings.{person_of_token};
 ghost use Rattle.page_routes.specs.Visits as visits;
 
 use browser_core::{cookie_token, is_own_post};
@@ -14,30 +13,34 @@ use settings_core::Settings;
 use std::alloc::{AllocError, Global};
 use text_core::Text;
 
-/// The person of the cookie, if it holds a token of the settings.
+/// The person for whom the cookie stands at a minute since 1970-01-01 00:00 UTC, if it stands for
+/// one.
 pub fn caller_of(
     alloc: Global,
     settings: &Settings,
+    at: u32,
     request: &Request,
 ) -> Result<Option<Text>, AllocError>
     ensures { (h : RequestHead) → StartsWith request.now.head h []
-        → IfOk result (λ caller. caller ≡ visits.caller_of settings.now (values_in h)) }
+        → IfOk result (λ caller. caller ≡ visits.caller_of settings.now at (values_in h)) }
 {
     let lines = header_values(alloc, request.head.as_slice(), "Cookie")?;
-    match person_of(settings, cookie_token(lines.as_slice())) {
-        Some(person) => Ok(Some(Text::new(alloc, person)?)),
-        None => Ok(None),
-    }
+    caller_by(alloc, settings, at, cookie_token(lines.as_slice()))
 }
 
-/// The person of a token, if the settings have it.
-fn person_of<'s>(settings: &'s Settings, token: Option<&str>) -> Option<&'s str>
-    ensures { option_map (λ p. p.now) result
-        ≡ option_and_then (person_of_token settings.now) (option_map (λ t. t.now) token.entry) }
+/// The person for whom a cookie stands, if there is one and it does.
+fn caller_by(
+    alloc: Global,
+    settings: &Settings,
+    at: u32,
+    cookie: Option<&str>,
+) -> Result<Option<Text>, AllocError>
+    ensures { IfOk result (λ caller. caller ≡ visits.caller_by settings.now at
+        (option_map (λ c. c.now) cookie.entry)) }
 {
-    match token {
-        Some(token) => settings.person_of_token(token),
-        None => None,
+    match cookie {
+        Some(cookie) => session_core::caller_of(alloc, settings, cookie, at),
+        None => Ok(None),
     }
 }
 

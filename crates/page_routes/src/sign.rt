@@ -1,6 +1,6 @@
 //! Signing in.
 
-ghost use Rattle.std.specs.Prelude.{◌≡◌, ◌≢◌, codes, Ok, Err, IfErr, IfOk};
+ghost use Rattle.std.specs.Prelude.{◌≡◌, ◌≢◌, Ok, Err, IfErr, IfOk};
 ghost use Rattle.std.specs.Option.{option_map};
 ghost use Rattle.browser_core.specs.Form as form;
 ghost use Rattle.page_routes.specs.Visits as visits;
@@ -11,16 +11,23 @@ use crate::page::Page;
 use crate::place::{Place, place_at};
 use crate::visit::Visit;
 use browser_core::{Field, fields_of, has, has_fields, text_in, trimmed};
+use hours_core::Minute;
+use session_core::{Lasts, signed_in};
 use settings_core::Settings;
 use std::alloc::{AllocError, Global};
 use text_core::Text;
 
-/// What a body asks that signs in.
-pub(crate) fn signing(alloc: Global, settings: &Settings, body: &[u8]) -> Result<Visit, PageFault>
+/// What a body asks at a minute that signs in.
+pub(crate) fn signing(
+    alloc: Global,
+    settings: &Settings,
+    at: u32,
+    body: &[u8],
+) -> Result<Visit, PageFault>
     ensures ok { IfOk result (λ visit.
-        visits.signing settings.now (form.fields_of body.now) ≡ Ok visit) }
+        visits.signing settings.now at (form.fields_of body.now) ≡ Ok visit) }
     ensures err { IfErr result (λ fault. fault ≢ PageFault.NoMemory
-        → visits.signing settings.now (form.fields_of body.now) ≡ Err fault) }
+        → visits.signing settings.now at (form.fields_of body.now) ≡ Err fault) }
 {
     let Some(fields) = fields_of(alloc, body)? else {
         return Err(PageFault::BadBody);
@@ -28,45 +35,71 @@ pub(crate) fn signing(alloc: Global, settings: &Settings, body: &[u8]) -> Result
     if !has_fields(fields.as_slice(), &["token", "next"], &["keep"]) {
         return Err(PageFault::BadBody);
     }
-    Ok(signed(alloc, settings, fields.as_slice())?)
+    Ok(signed(alloc, settings, at, fields.as_slice())?)
 }
 
 /// Whether the fields hold a token of the settings, and where they lead.
-fn signed(alloc: Global, settings: &Settings, fields: &[Field]) -> Result<Visit, AllocError>
-    ensures { IfOk result (λ visit. visit
-        ≡ visits.signed (visits.token_in settings.now fields.now)
-        (form.has fields.now (codes "keep")) (visits.next_in fields.now)) }
+fn signed(
+    alloc: Global,
+    settings: &Settings,
+    at: u32,
+    fields: &[Field],
+) -> Result<Visit, AllocError>
+    ensures { IfOk result (λ visit. visit ≡ visits.signed settings.now at fields.now) }
+{
+    match Minute::new(at) {
+        Some(moment) => signed_at(alloc, settings, moment, fields),
+        None => Ok(Visit::NoMoment),
+    }
+}
+
+/// The same at a moment of the desk.
+fn signed_at(
+    alloc: Global,
+    settings: &Settings,
+    moment: Minute,
+    fields: &[Field],
+) -> Result<Visit, AllocError>
+    ensures { IfOk result (λ visit. visit ≡ visits.signed_at settings.now moment fields.now) }
 {
     let keep = has(fields, "keep");
+    let cookie = cookie_by(alloc, settings, moment, keep, token_in(fields))?;
     let next = next_in(alloc, fields)?;
-    match token_in(settings, fields) {
-        Some(token) => Ok(Visit::SignedIn {
-            token: Text::new(alloc, token)?,
-            keep,
-            next,
-        }),
+    match cookie {
+        Some(cookie) => Ok(Visit::SignedIn { cookie, keep, next }),
         None => Ok(Visit::NotSignedIn { next }),
     }
 }
 
-/// What was typed, without spaces and tabs round it, where it is a token of the settings.
-fn token_in<'f>(settings: &Settings, fields: &'f [Field]) -> Option<&'f str>
-    ensures { option_map (λ t. t.now) result ≡ visits.token_in settings.now fields.now }
+/// What was typed, without spaces and tabs round it.
+fn token_in<'f>(fields: &'f [Field]) -> Option<&'f str>
+    ensures { option_map (λ t. t.now) result ≡ visits.token_in fields.now }
 {
-    match text_in(trimmed(typed(fields, "token").as_bytes())) {
-        Some(token) => if_known(settings, token),
-        None => None,
+    text_in(trimmed(typed(fields, "token").as_bytes()))
+}
+
+/// The cookie of the token that was typed, if the settings have it: for 30 days where it is to be
+/// kept, and else for 12 hours.
+fn cookie_by(
+    alloc: Global,
+    settings: &Settings,
+    moment: Minute,
+    keep: bool,
+    token: Option<&str>,
+) -> Result<Option<Text>, AllocError>
+    ensures { IfOk result (λ cookie. cookie ≡ visits.cookie_by settings.now moment keep
+        (option_map (λ t. t.now) token.entry)) }
+{
+    match token {
+        Some(token) => signed_in(alloc, settings, token, moment, lasts_of(keep)),
+        None => Ok(None),
     }
 }
 
-fn if_known<'t>(settings: &Settings, token: &'t str) -> Option<&'t str>
-    ensures { option_map (λ t. t.now) result ≡ visits.if_known settings.now token.now }
+fn lasts_of(keep: bool) -> Lasts
+    ensures { result ≡ visits.lasts_of keep }
 {
-    if settings.person_of_token(token).is_some() {
-        Some(token)
-    } else {
-        None
-    }
+    if keep { Lasts::Month } else { Lasts::Day }
 }
 
 /// The page whose address is in the field `next`, or else `/`.

@@ -57,10 +57,10 @@ pub enum Visit {
     Style,
     /// GET of `/sign-in`: its page, which leads to `/`.
     SignIn,
-    /// POST of `/sign-in` with a token of the settings: 303 to the page, with the cookie, which is
-    /// kept for 30 days where `keep` was ticked.
+    /// POST of `/sign-in` with a token of the settings: 303 to the page, with the cookie of a session
+    /// of 12 hours, or of 30 days where `keep` was ticked.
     SignedIn {
-        token: Text,
+        cookie: Text,
         keep: bool,
         next: Page,
     },
@@ -68,12 +68,14 @@ pub enum Visit {
     NotSignedIn {
         next: Page,
     },
+    /// POST of `/sign-in` at a minute that is no moment of the desk: the page that tells so.
+    NoMoment,
     /// POST of `/sign-out`: 303 to `/sign-in`, and the cookie is cleared.
     SignOut,
     /// GET of a place that only takes POST: 303 to where its form stands.
     Leads(Page),
-    /// Nobody's cookie, at any other place: the sign-in page, which leads to this one. It is
-    /// answered at that very page to a GET, and elsewhere to a POST.
+    /// Nobody's cookie, at any other place, or a search that another site opens: the sign-in page,
+    /// which leads to this one. It is answered at that very page to a GET, and elsewhere to a POST.
     Unknown {
         next: Page,
         to_get: bool,
@@ -95,21 +97,27 @@ pub enum Visit {
     },
 }
 
-/// What a message asks of the pages, as the lines of its head say.
+/// What a message asks of the pages at a minute since 1970-01-01 00:00 UTC, as the lines of its
+/// head say.
 ///
 /// `NoRoute` where its path is no place, `BadMethod` where the place doesn't have its method,
 /// `OtherSite` where a post comes from another site, and `BadBody` where a body isn't what the form
 /// sends: the first of these that holds. Whoever the cookie is, it is looked at before the body, but
 /// not for signing in and out. `NoMemory` may stand in place of any other answer.
-pub fn visit_of(alloc: Global, settings: &Settings, request: &Request) -> Result<Visit, PageFault>
+pub fn visit_of(
+    alloc: Global,
+    settings: &Settings,
+    at: u32,
+    request: &Request,
+) -> Result<Visit, PageFault>
     ensures ok { (h : RequestHead) → StartsWith request.now.head h [] → IfOk result (λ visit.
-        visits.visit_of settings.now request.now.message (values_in h) ≡ Ok visit) }
+        visits.visit_of settings.now at request.now.message (values_in h) ≡ Ok visit) }
     ensures err { (h : RequestHead) → StartsWith request.now.head h [] → IfErr result (λ fault.
         fault ≢ PageFault.NoMemory
-        → visits.visit_of settings.now request.now.message (values_in h) ≡ Err fault) }
+        → visits.visit_of settings.now at request.now.message (values_in h) ≡ Err fault) }
 {
     match place_at(alloc, request.message.target.as_slice())? {
-        Some(place) => visited(alloc, settings, request, place),
+        Some(place) => visited(alloc, settings, at, request, place),
         None => Err(PageFault::NoRoute),
     }
 }
@@ -118,21 +126,23 @@ pub fn visit_of(alloc: Global, settings: &Settings, request: &Request) -> Result
 fn visited(
     alloc: Global,
     settings: &Settings,
+    at: u32,
     request: &Request,
     place: Place,
 ) -> Result<Visit, PageFault>
     ensures ok { (h : RequestHead) → StartsWith request.now.head h [] → IfOk result (λ visit.
-        visits.visited_at settings.now request.now.message (values_in h) (Some place) ≡ Ok visit) }
+        visits.visited_at settings.now at request.now.message (values_in h) (Some place)
+        ≡ Ok visit) }
     ensures err { (h : RequestHead) → StartsWith request.now.head h [] → IfErr result (λ fault.
-        fault ≢ PageFault.NoMemory → visits.visited_at settings.now request.now.message
+        fault ≢ PageFault.NoMemory → visits.visited_at settings.now at request.now.message
         (values_in h) (Some place) ≡ Err fault) }
 {
     let posts = takes_post(&place);
     match method_named(request.message.method.as_slice()) {
-        Some(Method::Get) => Ok(got(alloc, settings, request, place)?),
+        Some(Method::Get) => Ok(got(alloc, settings, at, request, place)?),
         Some(Method::Post) => {
             if posts {
-                posted_from(alloc, settings, request, place)
+                posted_from(alloc, settings, at, request, place)
             } else {
                 Err(PageFault::BadMethod { posts: false })
             }
@@ -145,19 +155,64 @@ fn visited(
 fn got(
     alloc: Global,
     settings: &Settings,
+    at: u32,
     request: &Request,
     place: Place,
 ) -> Result<Visit, AllocError>
     ensures { (h : RequestHead) → StartsWith request.now.head h []
-        → IfOk result (λ visit. visit ≡ visits.got settings.now (values_in h) place) }
+        → IfOk result (λ visit. visit ≡ visits.got settings.now at (values_in h) place) }
 {
     match place {
         Place::Style => Ok(Visit::Style),
         Place::SignIn => Ok(Visit::SignIn),
-        Place::Page(page) => Ok(looked(page, caller_of(alloc, settings, request)?)),
+        Place::Page(page) => {
+            let caller = looker(alloc, settings, at, request, &page)?;
+            Ok(looked(page, caller))
+        }
         Place::Act(_, id) => Ok(Visit::Leads(Page::Request(id))),
         _ => Ok(Visit::Leads(Page::Home)),
     }
+}
+
+/// Who looks at a page. A search that another site opens is looked at by nobody, so that no site
+/// learns from how long one takes.
+fn looker(
+    alloc: Global,
+    settings: &Settings,
+    at: u32,
+    request: &Request,
+    page: &Page,
+) -> Result<Option<Text>, AllocError>
+    ensures { (h : RequestHead) → StartsWith request.now.head h [] → IfOk result (λ caller.
+        caller ≡ visits.looker settings.now at (values_in h) page.now) }
+{
+    if is_search(page) {
+        searcher(alloc, settings, at, request)
+    } else {
+        caller_of(alloc, settings, at, request)
+    }
+}
+
+fn searcher(
+    alloc: Global,
+    settings: &Settings,
+    at: u32,
+    request: &Request,
+) -> Result<Option<Text>, AllocError>
+    ensures { (h : RequestHead) → StartsWith request.now.head h [] → IfOk result (λ caller.
+        caller ≡ visits.searcher settings.now at (values_in h)) }
+{
+    if is_own(alloc, request)? {
+        caller_of(alloc, settings, at, request)
+    } else {
+        Ok(None)
+    }
+}
+
+fn is_search(page: &Page) -> bool
+    ensures { result ≡ visits.is_search page.now }
+{
+    matches!(page, Page::Find { .. })
 }
 
 fn looked(page: Page, caller: Option<Text>) -> Visit
@@ -176,40 +231,42 @@ fn looked(page: Page, caller: Option<Text>) -> Visit
 fn posted_from(
     alloc: Global,
     settings: &Settings,
+    at: u32,
     request: &Request,
     place: Place,
 ) -> Result<Visit, PageFault>
     ensures ok { (h : RequestHead) → StartsWith request.now.head h [] → IfOk result (λ visit.
-        visits.posted_from settings.now (values_in h) request.now.message.body place
+        visits.posted_from settings.now at (values_in h) request.now.message.body place
         ≡ Ok visit) }
     ensures err { (h : RequestHead) → StartsWith request.now.head h [] → IfErr result (λ fault.
-        fault ≢ PageFault.NoMemory → visits.posted_from settings.now (values_in h)
+        fault ≢ PageFault.NoMemory → visits.posted_from settings.now at (values_in h)
         request.now.message.body place ≡ Err fault) }
 {
     if !is_own(alloc, request)? {
         return Err(PageFault::OtherSite);
     }
-    posted(alloc, settings, request, place)
+    posted(alloc, settings, at, request, place)
 }
 
 /// What a post of the desk's own asks at a place that takes one.
 fn posted(
     alloc: Global,
     settings: &Settings,
+    at: u32,
     request: &Request,
     place: Place,
 ) -> Result<Visit, PageFault>
     ensures ok { (h : RequestHead) → StartsWith request.now.head h [] → IfOk result (λ visit.
-        visits.posted settings.now (values_in h) request.now.message.body place ≡ Ok visit) }
+        visits.posted settings.now at (values_in h) request.now.message.body place ≡ Ok visit) }
     ensures err { (h : RequestHead) → StartsWith request.now.head h [] → IfErr result (λ fault.
-        fault ≢ PageFault.NoMemory → visits.posted settings.now (values_in h)
+        fault ≢ PageFault.NoMemory → visits.posted settings.now at (values_in h)
         request.now.message.body place ≡ Err fault) }
 {
     match place {
-        Place::SignIn => signing(alloc, settings, request.message.body.as_slice()),
+        Place::SignIn => signing(alloc, settings, at, request.message.body.as_slice()),
         Place::SignOut => Ok(Visit::SignOut),
         place => {
-            let caller = caller_of(alloc, settings, request)?;
+            let caller = caller_of(alloc, settings, at, request)?;
             asked_by(alloc, place, caller, request.message.body.as_slice())
         }
     }

@@ -186,7 +186,7 @@ left_out s at request bytes old new told stay =
 pub visited : {X E : Type 0} (s : Settings) (at : ℕ) (request : Request) (visit : Visit)
     (r : Result X E) (bytes : List ℕ) (old new : State)
     → ((h : RequestHead) → StartsWith request.head h []
-    → visit_of s request.message (values_in h) ≡ Ok visit)
+    → visit_of s at request.message (values_in h) ≡ Ok visit)
     → OnOk r (ToldStepsOn s at (is_head request.message) visit bytes old new)
     → OnOk r (AskedStepsOn s at request bytes old new)
 visited s at request visit (Ok x) bytes old new is steps =
@@ -207,7 +207,7 @@ told_so s at head_only visit whole bytes old new steps told =
 pub faulted : {X E : Type 0} (s : Settings) (at : ℕ) (request : Request) (fault : PageFault)
     (r : Result X E) (bytes : List ℕ) (tables : State)
     → ((h : RequestHead) → StartsWith request.head h []
-    → visit_of s request.message (values_in h) ≡ Err fault)
+    → visit_of s at request.message (values_in h) ≡ Err fault)
     → OnOk r (bytes ≡ fault_reply (is_head request.message) fault)
     → OnOk r (AskedStepsOn s at request bytes tables tables)
 faulted s at request fault (Ok x) bytes tables is told =

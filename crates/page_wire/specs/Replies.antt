@@ -83,8 +83,8 @@ sign_in status next unknown elsewhere =
     with_page status (page_bytes (sign_in_page (path_of next) unknown elsewhere))
 
 abbrev pub cookie_for : Bool → List ℕ → CookieChange
-cookie_for true token = Stay token
-cookie_for false token = Session token
+cookie_for true cookie = Stay cookie
+cookie_for false cookie = Session cookie
 
 -- ---- pages
 

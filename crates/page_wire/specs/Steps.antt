@@ -177,7 +177,7 @@ abbrev pub AskedSteps : Settings → ℕ → Request → Desk → List ℕ → D
 AskedSteps settings at request old bytes new =
     (head : RequestHead) → StartsWith request.head head []
     → PageSteps settings at (is_head request.message)
-    (visit_of settings request.message (values_in head)) old bytes new
+    (visit_of settings at request.message (values_in head)) old bytes new
 
 -- out of memory nothing is done and the reply says so; or what the message asks for is done
 abbrev pub RequestSteps : Settings → ℕ → Request → Desk → List ℕ → Desk → Type 0

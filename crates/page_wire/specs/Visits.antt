@@ -13,7 +13,7 @@ use Rattle.page_wire.specs.Faults.{clock_reply}
 use Rattle.page_wire.specs.Replies.{cookie_for, leads_to, sign_in}
 
 abbrev pub signed_in : List ℕ → Bool → Page → List ℕ
-signed_in token keep next = leads_to (cookie_for keep token) (path_of next)
+signed_in cookie keep next = leads_to (cookie_for keep cookie) (path_of next)
 
 abbrev pub signed_out : List ℕ
 signed_out = leads_to Forget (codes "/sign-in")
@@ -30,8 +30,9 @@ IsSheet bytes =
 abbrev pub IsFixed : Visit → List ℕ → Type 0
 IsFixed visit.Style bytes = IsSheet bytes
 IsFixed visit.SignIn bytes = bytes ≡ sign_in 200 Home false false
-IsFixed (visit.SignedIn token keep next) bytes = bytes ≡ signed_in token keep next
+IsFixed (visit.SignedIn cookie keep next) bytes = bytes ≡ signed_in cookie keep next
 IsFixed (visit.NotSignedIn next) bytes = bytes ≡ sign_in 403 next true false
+IsFixed visit.NoMoment bytes = bytes ≡ clock_reply
 IsFixed visit.SignOut bytes = bytes ≡ signed_out
 IsFixed (visit.Leads next) bytes = bytes ≡ leads_on next
 IsFixed (visit.Unknown next to_get) bytes = bytes ≡ sign_in 403 next false to_get

@@ -78,12 +78,12 @@ pub(crate) fn sign_in(
 }
 
 /// The cookie of one who signs in: for 30 days, or until the browser ends.
-pub(crate) fn cookie_for(keep: bool, token: Text) -> CookieChange
-    ensures { result ≡ form.cookie_for keep token }
+pub(crate) fn cookie_for(keep: bool, cookie: Text) -> CookieChange
+    ensures { result ≡ form.cookie_for keep cookie }
 {
     if keep {
-        CookieChange::Stay(token)
+        CookieChange::Stay(cookie)
     } else {
-        CookieChange::Session(token)
+        CookieChange::Session(cookie)
     }
 }

@@ -173,7 +173,7 @@ fn reply_to<S: Backend>(
         (tables_of S.Store desk.old) (tables_of S.Store desk.new)) }
     ensures left { LeavesDesk S.Store desk.old desk.new }
 {
-    match visit_of(alloc, desk.settings(), request) {
+    match visit_of(alloc, desk.settings(), at, request) {
         Ok(visit) => {
             let made = tell_visit(alloc, is_head(&request.message), &visit, at, desk, room);
             drop(visit);

@@ -78,23 +78,23 @@ fn fixed(alloc: Global, visit: &Visit) -> Result<Vec<u8>, AllocError>
     match visit {
         Visit::Style => sheet_reply(alloc, style_sheet().as_bytes()),
         Visit::SignIn => sign_in(alloc, 200, &Page::Home, false, false),
-        Visit::SignedIn { token, keep, next } => signed_in(alloc, token, *keep, next),
+        Visit::SignedIn { cookie, keep, next } => signed_in(alloc, cookie, *keep, next),
         Visit::NotSignedIn { next } => sign_in(alloc, 403, next, true, false),
         Visit::SignOut => signed_out(alloc),
         Visit::Leads(next) => leads_on(alloc, next),
         Visit::Unknown { next, to_get } => sign_in(alloc, 403, next, false, *to_get),
         Visit::Go { id } => leads_on(alloc, &Page::Request(*id)),
-        Visit::Look { .. } | Visit::Act { .. } => clock_reply(alloc),
+        Visit::NoMoment | Visit::Look { .. } | Visit::Act { .. } => clock_reply(alloc),
     }
 }
 
 /// Leads to a page, with the cookie of one who signed in.
-fn signed_in(alloc: Global, token: &Text, keep: bool, next: &Page) -> Result<Vec<u8>, AllocError>
-    ensures { IfOk result (λ out. out.items ≡ form.signed_in token.now keep next.now) }
+fn signed_in(alloc: Global, cookie: &Text, keep: bool, next: &Page) -> Result<Vec<u8>, AllocError>
+    ensures { IfOk result (λ out. out.items ≡ form.signed_in cookie.now keep next.now) }
 {
     let place = page_path(alloc, next)?;
-    let token = token.clone()?;
-    leads_to(alloc, cookie_for(keep, token), place)
+    let cookie = cookie.clone()?;
+    leads_to(alloc, cookie_for(keep, cookie), place)
 }
 
 /// Leads to the page on which one signs in, without a cookie.

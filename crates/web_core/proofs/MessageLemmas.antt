@@ -1,8 +1,11 @@
 -- What was read and taken is the step of its message.
-use Rattle.std.proofs.Common.{◌≡◌, ◌≢◌, ◌⊎◌, ℕ, Bool, List, false, Result, Ok, Err, inl, inr, refl, subst}
+use Rattle.std.proofs.Common.{◌≡◌, ◌≢◌, ◌⊎◌, ℕ, Bool, List, false, true, Option, Result, Ok, Err, inl, inr, refl}
+use Rattle.std.proofs.Common.{subst}
+use Rattle.std.specs.Prelude.{MatchBool}
 use Rattle.sqlite.specs.State.{State}
 use Rattle.settings_core.specs.declared.settings.Settings.{Settings}
 use Rattle.desk_model.specs.Desk.{Desk}
+use Rattle.http_rules.specs.Expectation.{IsExpecting, expectation_failed}
 use Rattle.message_core.specs.Reply.{bytes_of, unavailable}
 use Rattle.message_core.specs.declared.fault.WireFault.{WireFault}
 use Rattle.message_core.specs.declared.fault.WireFault.TheVariants.{BadHead, BadLength, NoMemory, Read}
@@ -13,14 +16,28 @@ use Rattle.store_tables.specs.Calls.{Spares}
 use Rattle.wire_core.specs.Replies.{TellsFault}
 use Rattle.wire_core.specs.Runs.{Sent}
 use Rattle.wire_core.proofs.Stepping.{leads_nowhere, leads_same, leads_wider}
-use Rattle.page_wire.specs.Steps.{IsReadOf, SentStepsOn}
-use Rattle.web_core.specs.Control.{control_of, copy_told, stop_reply}
-use Rattle.web_core.specs.Messages.{IsRepliedOn, IsReplyTo, TakenSteps}
+use Rattle.page_wire.specs.Steps.{SentStepsOn}
+use Rattle.web_core.specs.Control.{IsTold, control_by, control_of, copy_told, stop_reply}
+use Rattle.web_core.specs.Dates.{IsDatedAt}
+use Rattle.web_core.specs.Messages.{IsRepliedOn, IsReplyTo, IsSentOn, IsSentTo, IsTakenAs, TakenSteps}
+use Rattle.web_core.specs.Messages.{TellsExpecting}
 use Rattle.web_core.specs.declared.control.Control.{Control}
 use Rattle.web_core.specs.declared.control.Control.TheVariants.{Nothing, Stop, Copy}
 
 abbrev Reads : List ℕ → Result Request WireFault → Type 0
-Reads bytes read = read ≢ Err NoMemory → IsReadOf bytes read
+Reads bytes read = read ≢ Err NoMemory → IsTakenAs bytes read
+
+abbrev Plain : List ℕ → Type 0
+Plain bytes = ¬ (IsExpecting bytes)
+
+plain : (bytes : List ℕ) (expects : Bool) → expects ≡ false → TellsExpecting bytes expects → Plain bytes
+plain bytes expects is told =
+    subst (λ (b : Bool). MatchBool b (IsExpecting bytes) (¬ (IsExpecting bytes))) is told
+
+nothing_else : (s : Settings) (read : Result Request WireFault) (expects : Bool) (control : Control)
+    → expects ≡ false → control ≡ control_by expects s read → control ≡ control_of s read
+nothing_else s read true control is same = let no : true ≡ false = is in cc
+nothing_else s read false control is same = same
 
 -- the steps of what was read, and asks this of the server itself
 abbrev TakenOn : Settings → ℕ → Bool → Result Request WireFault → Control → List ℕ → State → State
@@ -41,12 +58,12 @@ left_out s sent bytes old new is kept =
     (λ desk. inl (is, refl))
 
 taken_so : (s : Settings) (sent : Sent) (copied : Bool) (read : Result Request WireFault)
-    (bytes : List ℕ) (old new : State) → IsReadOf sent.1 read
+    (bytes : List ℕ) (old new : State) → Plain sent.1 → IsTakenAs sent.1 read
     → TakenOn s sent.0 copied read (control_of s read) bytes old new
     → IsRepliedOn s sent bytes old new
 unfolding IsReplyTo
-taken_so s sent copied read bytes old new reads steps =
-    leads_wider s _ _ old new (λ desk after step. inr (read, copied, reads, step)) steps
+taken_so s sent copied read bytes old new other reads steps =
+    leads_wider s _ _ old new (λ desk after step. inr (inr (other, read, copied, reads, step))) steps
 
 unread_so : (s : Settings) (sent : Sent) (copied : Bool) (bytes : List ℕ) (old new : State)
     → TakenOn s sent.0 copied (Err NoMemory) Nothing bytes old new
@@ -56,51 +73,82 @@ unread_so s sent copied bytes old new steps =
     leads_wider s _ _ old new (λ desk after step. inl (no_memory bytes step.0, step.1)) steps
 
 taken : (s : Settings) (sent : Sent) (copied : Bool) (read : Result Request WireFault)
-    (bytes : List ℕ) (old new : State) → Reads sent.1 read
+    (bytes : List ℕ) (old new : State) → Plain sent.1 → Reads sent.1 read
     → TakenOn s sent.0 copied read (control_of s read) bytes old new
     → IsRepliedOn s sent bytes old new
-taken s sent copied (Ok request) bytes old new reads steps =
-    taken_so s sent copied (Ok request) bytes old new (reads (λ e. cc)) steps
-taken s sent copied (Err NoMemory) bytes old new reads steps =
+taken s sent copied (Ok request) bytes old new other reads steps =
+    taken_so s sent copied (Ok request) bytes old new other (reads (λ e. cc)) steps
+taken s sent copied (Err NoMemory) bytes old new other reads steps =
     unread_so s sent copied bytes old new steps
-taken s sent copied (Err Read) bytes old new reads steps =
-    taken_so s sent copied (Err Read) bytes old new (reads (λ e. cc)) steps
-taken s sent copied (Err TooLong) bytes old new reads steps =
-    taken_so s sent copied (Err TooLong) bytes old new (reads (λ e. cc)) steps
-taken s sent copied (Err Truncated) bytes old new reads steps =
-    taken_so s sent copied (Err Truncated) bytes old new (reads (λ e. cc)) steps
-taken s sent copied (Err BadHead) bytes old new reads steps =
-    taken_so s sent copied (Err BadHead) bytes old new (reads (λ e. cc)) steps
-taken s sent copied (Err BadLength) bytes old new reads steps =
-    taken_so s sent copied (Err BadLength) bytes old new (reads (λ e. cc)) steps
+taken s sent copied (Err Read) bytes old new other reads steps =
+    taken_so s sent copied (Err Read) bytes old new other (reads (λ e. cc)) steps
+taken s sent copied (Err TooLong) bytes old new other reads steps =
+    taken_so s sent copied (Err TooLong) bytes old new other (reads (λ e. cc)) steps
+taken s sent copied (Err Truncated) bytes old new other reads steps =
+    taken_so s sent copied (Err Truncated) bytes old new other (reads (λ e. cc)) steps
+taken s sent copied (Err BadHead) bytes old new other reads steps =
+    taken_so s sent copied (Err BadHead) bytes old new other (reads (λ e. cc)) steps
+taken s sent copied (Err BadLength) bytes old new other reads steps =
+    taken_so s sent copied (Err BadLength) bytes old new other (reads (λ e. cc)) steps
 
-by_control : (s : Settings) (sent : Sent) (copied : Bool) (read : Result Request WireFault)
-    (control : Control) (bytes : List ℕ) (old new : State) → control ≡ control_of s read
-    → Reads sent.1 read → TakenOn s sent.0 copied read control bytes old new
-    → IsRepliedOn s sent bytes old new
-by_control s sent copied read control bytes old new is reads steps =
-    taken s sent copied read bytes old new reads
-    (subst (λ (c : Control). TakenOn s sent.0 copied read c bytes old new) is steps)
+by_control : (s : Settings) (sent : Sent) (copied expects : Bool) (read : Result Request WireFault)
+    (control : Control) (bytes : List ℕ) (old new : State) → expects ≡ false
+    → TellsExpecting sent.1 expects → control ≡ control_by expects s read → Reads sent.1 read
+    → TakenOn s sent.0 copied read control bytes old new → IsRepliedOn s sent bytes old new
+by_control s sent copied expects read control bytes old new unexpected told is reads steps =
+    taken s sent copied read bytes old new (plain sent.1 expects unexpected told) reads
+    (subst (λ (c : Control). TakenOn s sent.0 copied read c bytes old new)
+    (nothing_else s read expects control unexpected is) steps)
 
 -- it asks nothing of the server itself, and was answered
-pub answered : (s : Settings) (sent : Sent) (copied : Bool) (read : Result Request WireFault)
-    (bytes : List ℕ) (old new : State) → Nothing ≡ control_of s read → Reads sent.1 read
+pub answered : (s : Settings) (sent : Sent) (copied expects : Bool) (read : Result Request WireFault)
+    (bytes : List ℕ) (old new : State) → expects ≡ false → TellsExpecting sent.1 expects
+    → Nothing ≡ control_by expects s read → Reads sent.1 read
     → SentStepsOn s sent.0 read bytes old new → IsRepliedOn s sent bytes old new
-answered s sent copied read bytes old new is reads steps =
-    by_control s sent copied read Nothing bytes old new is reads steps
+answered s sent copied expects read bytes old new unexpected told is reads steps =
+    by_control s sent copied expects read Nothing bytes old new unexpected told is reads steps
 
 -- it asks the server to stop
-pub stopped : (s : Settings) (sent : Sent) (copied : Bool) (read : Result Request WireFault)
-    (bytes : List ℕ) (tables : State) → Stop ≡ control_of s read → Reads sent.1 read
-    → bytes ≡ bytes_of stop_reply → IsRepliedOn s sent bytes tables tables
-stopped s sent copied read bytes tables is reads told =
-    by_control s sent copied read Stop bytes tables tables is reads
-    (leads_nowhere s _ tables (λ desk. (told, refl)))
+pub stopped : (s : Settings) (sent : Sent) (copied expects : Bool) (read : Result Request WireFault)
+    (bytes : List ℕ) (tables : State) → expects ≡ false → TellsExpecting sent.1 expects
+    → Stop ≡ control_by expects s read → Reads sent.1 read → bytes ≡ bytes_of stop_reply
+    → IsRepliedOn s sent bytes tables tables
+stopped s sent copied expects read bytes tables unexpected told is reads replied =
+    by_control s sent copied expects read Stop bytes tables tables unexpected told is reads
+    (leads_nowhere s _ tables (λ desk. (replied, refl)))
 
 -- it asks for a copy
-pub copied_so : (s : Settings) (sent : Sent) (copied : Bool) (read : Result Request WireFault)
-    (bytes : List ℕ) (tables : State) → Copy ≡ control_of s read → Reads sent.1 read
+pub copied_so : (s : Settings) (sent : Sent) (copied expects : Bool)
+    (read : Result Request WireFault) (bytes : List ℕ) (tables : State) → expects ≡ false
+    → TellsExpecting sent.1 expects → Copy ≡ control_by expects s read → Reads sent.1 read
     → bytes ≡ bytes_of (copy_told copied) → IsRepliedOn s sent bytes tables tables
-copied_so s sent copied read bytes tables is reads told =
-    by_control s sent copied read Copy bytes tables tables is reads
-    (leads_nowhere s _ tables (λ desk. (told, refl)))
+copied_so s sent copied expects read bytes tables unexpected told is reads replied =
+    by_control s sent copied expects read Copy bytes tables tables unexpected told is reads
+    (leads_nowhere s _ tables (λ desk. (replied, refl)))
+
+-- it expects something
+pub failed : (s : Settings) (sent : Sent) (expects : Bool) (bytes : List ℕ) (tables : State)
+    → expects ≡ true → TellsExpecting sent.1 expects → bytes ≡ bytes_of expectation_failed
+    → IsRepliedOn s sent bytes tables tables
+unfolding IsReplyTo
+failed s sent expects bytes tables expected told replied =
+    let waits : IsExpecting sent.1 =
+    subst (λ (b : Bool). MatchBool b (IsExpecting sent.1) (¬ (IsExpecting sent.1))) expected told in
+    leads_nowhere s (λ desk after. IsReplyTo s sent desk bytes after) tables
+    (λ desk. inr (inl (waits, replied, refl)))
+
+-- nothing is asked of the server itself then
+pub untold : (s : Settings) (read : Result Request WireFault) (expects : Bool) (control : Control)
+    (copied : Bool) (bytes : List ℕ) → expects ≡ true → control ≡ control_by expects s read
+    → IsTold control copied bytes
+untold s read true Nothing copied bytes expected is = tt
+untold s read true Stop copied bytes expected is = let unexpected : Stop ≡ Nothing = is in cc
+untold s read true Copy copied bytes expected is = let unexpected : Copy ≡ Nothing = is in cc
+untold s read false control copied bytes expected is = let unexpected : false ≡ true = expected in cc
+
+-- it is sent with its date
+pub sent_so : (s : Settings) (sent : Sent) (second : Option ℕ) (whole bytes : List ℕ) (old new : State)
+    → IsRepliedOn s sent whole old new → IsDatedAt second whole bytes → IsSentOn s sent bytes old new
+unfolding IsSentTo
+sent_so s sent second whole bytes old new steps date =
+    leads_wider s _ _ old new (λ desk after step. (whole, (second, date), step)) steps

@@ -57,6 +57,11 @@ abbrev pub control_of : Settings → Result Request WireFault → Control
 control_of settings (Ok request) = control_in settings request.message
 control_of settings (Err fault) = Nothing
 
+-- one that expects something asks for nothing yet
+abbrev pub control_by : Bool → Settings → Result Request WireFault → Control
+control_by true settings read = Nothing
+control_by false settings read = control_of settings read
+
 abbrev pub is_stop : Control → Bool
 is_stop Nothing = false
 is_stop Stop = true

@@ -1,4 +1,5 @@
 pub mod Control
+pub mod Dates
 pub mod Messages
 pub mod Notes
 pub mod Shut

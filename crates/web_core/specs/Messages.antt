@@ -1,10 +1,12 @@
 -- What a message does to a desk over tables, as a server of many connections sees it.
-use Rattle.std.specs.Prelude.{◌≡◌, ◌⊎◌, ℕ, Bool, false, List, [], ◌∷◌, Result}
+use Rattle.std.specs.Prelude.{◌≡◌, ◌⊎◌, ℕ, Bool, false, List, [], ◌∷◌, MatchBool, Result}
 use Rattle.sqlite.specs.State.{State}
 use Rattle.settings_core.specs.declared.settings.Settings.{Settings}
 use Rattle.desk_model.specs.Desk.{Desk}
 use Rattle.service_core.specs.TableSteps.{LeadsOn}
 use Rattle.store_tables.specs.Calls.{Lasts, WasClean}
+use Rattle.http_rules.specs.Expectation.{IsExpecting, expectation_failed}
+use Rattle.http_rules.specs.Rules.{IsByRules}
 use Rattle.message_core.specs.Reply.{bytes_of}
 use Rattle.message_core.specs.declared.fault.WireFault.{WireFault}
 use Rattle.message_core.specs.declared.request.Request.{Request}
@@ -13,6 +15,7 @@ use Rattle.wire_core.specs.Steps.{LeavesOut}
 use Rattle.page_wire.specs.Steps.{IsReadOf, SentSteps}
 use Rattle.server_core.specs.Turns.{Answered}
 use Rattle.web_core.specs.Control.{control_of, copy_told, stop_reply}
+use Rattle.web_core.specs.Dates.{IsDated}
 use Rattle.web_core.specs.declared.control.Control.{Control}
 use Rattle.web_core.specs.declared.control.Control.TheVariants.{Nothing, Stop, Copy}
 
@@ -29,27 +32,48 @@ TakenSteps settings at copied read Stop old bytes new =
 TakenSteps settings at copied read Copy old bytes new =
     (bytes ≡ bytes_of (copy_told copied)) × (new ≡ old)
 
--- the step of a message: it is left out where there was no memory to read it
+-- what was read of these bytes, by HTTP's rules
+abbrev pub IsTakenAs : List ℕ → Result Request WireFault → Type 0
+IsTakenAs bytes read =
+    (came : Result Request WireFault) × IsReadOf bytes came × IsByRules came read
+
+-- whether a message expects something before its body is sent
+abbrev pub TellsExpecting : List ℕ → Bool → Type 0
+TellsExpecting bytes expects = MatchBool expects (IsExpecting bytes) (¬ (IsExpecting bytes))
+
+-- The step of a message: it is left out where there was no memory to read it. Nothing is done for one
+-- that expects something.
 unfoldable pub IsReplyTo : Settings → Sent → Desk → List ℕ → Desk → Type 0
 IsReplyTo settings sent old bytes new =
     LeavesOut false old bytes new
-    ⊎ ((read : Result Request WireFault) × (copied : Bool) × IsReadOf sent.1 read
-    × TakenSteps settings sent.0 copied read (control_of settings read) old bytes new)
+    ⊎ ((IsExpecting sent.1 × (bytes ≡ bytes_of expectation_failed) × (new ≡ old))
+    ⊎ (¬ (IsExpecting sent.1) × (read : Result Request WireFault) × (copied : Bool)
+    × IsTakenAs sent.1 read
+    × TakenSteps settings sent.0 copied read (control_of settings read) old bytes new))
+
+-- what is sent is that reply with its date
+unfoldable pub IsSentTo : Settings → Sent → Desk → List ℕ → Desk → Type 0
+IsSentTo settings sent old bytes new =
+    (whole : List ℕ) × IsDated whole bytes × IsReplyTo settings sent old whole new
 
 abbrev pub IsRepliedOn : Settings → Sent → List ℕ → State → State → Type 0
 IsRepliedOn settings sent bytes =
     LeadsOn settings (λ desk after. IsReplyTo settings sent desk bytes after)
 
+abbrev pub IsSentOn : Settings → Sent → List ℕ → State → State → Type 0
+IsSentOn settings sent bytes =
+    LeadsOn settings (λ desk after. IsSentTo settings sent desk bytes after)
+
 -- its step, in tables whose disk told of no fault that it now hides, under the same settings
 abbrev pub StepsAt : Settings → State → Answered → State → Type 0
 StepsAt settings old a new =
-    IsRepliedOn settings (sent_of a) a.reply old new × WasClean old new × Lasts old new
+    IsSentOn settings (sent_of a) a.reply old new × WasClean old new × Lasts old new
 
 -- one after the other, each from the desk that the message before left, and with its reply
 abbrev pub RunsAnswers : Settings → Desk → List Answered → Desk → Type 0
 RunsAnswers settings old [] new = new ≡ old
 RunsAnswers settings old (a ∷ rest) new =
-    (mid : Desk) × IsReplyTo settings (sent_of a) old a.reply mid
+    (mid : Desk) × IsSentTo settings (sent_of a) old a.reply mid
     × RunsAnswers settings mid rest new
 
 abbrev pub RunsAnswersOn : Settings → List Answered → State → State → Type 0

@@ -18,23 +18,24 @@ abbrev pub forwarded_in : Bool → RequestHead → List ℕ
 forwarded_in proxied h =
     if proxied then unwrap_or (value_in h (codes "X-Forwarded-For")) [] else []
 
--- whose token it has: by its cookie at a place of the pages, and else by its line
-abbrev pub person_in : Settings → Message → (List ℕ → List (List ℕ)) → List ℕ
-person_in settings message lines =
+-- whom it comes from: by its cookie at a place of the pages, at this minute, and else by the token
+-- of its line
+abbrev pub person_in : Settings → ℕ → Message → (List ℕ → List (List ℕ)) → List ℕ
+person_in settings at message lines =
     unwrap_or
-    (if is_page_path (path_in message.target) then pages.caller_of settings lines
+    (if is_page_path (path_in message.target) then pages.caller_of settings at lines
     else interface.caller_of settings message.token) []
 
 -- the note of what was read and of its reply: of bytes that are no message, of the reply alone
-abbrev pub NotesRead : Bool → Settings → Result Request WireFault → List ℕ → List ℕ → Type 0
-NotesRead proxied settings (Err fault) reply note = note ≡ note_text [] [] [] [] reply
-NotesRead proxied settings (Ok request) reply note =
+abbrev pub NotesRead : Bool → Settings → ℕ → Result Request WireFault → List ℕ → List ℕ → Type 0
+NotesRead proxied settings at (Err fault) reply note = note ≡ note_text [] [] [] [] reply
+NotesRead proxied settings at (Ok request) reply note =
     (h : RequestHead) → StartsWith request.head h []
     → note ≡ note_text (forwarded_in proxied h)
-    (person_in settings request.message (values_in h)) request.message.method request.message.target
+    (person_in settings at request.message (values_in h)) request.message.method request.message.target
     reply
 
 -- it is that, or nothing where there was no memory for it
-abbrev pub IsNote : Bool → Settings → Result Request WireFault → List ℕ → List ℕ → Type 0
-IsNote proxied settings read reply note =
-    (note ≡ []) ⊎ NotesRead proxied settings read reply note
+abbrev pub IsNote : Bool → Settings → ℕ → Result Request WireFault → List ℕ → List ℕ → Type 0
+IsNote proxied settings at read reply note =
+    (note ≡ []) ⊎ NotesRead proxied settings at read reply note

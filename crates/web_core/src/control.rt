@@ -6,7 +6,7 @@ ghost use Rattle.route_core.specs.Commands.{caller_of};
 ghost use Rattle.web_core.specs.Control as form;
 ghost use Rattle.web_core.specs.Control.{CopiesBy};
 
-use crate::copies::Copies;
+use crate::system::System;
 use browser_core::cut;
 use message_core::{Message, Request, WireFault, unavailable_reply};
 use rights_core::{Roles, right};
@@ -23,9 +23,24 @@ pub(crate) enum Control {
     Copy,
 }
 
-/// What was read asks of the server itself, where who sent it may: a POST of `/stop` or `/copy` with
-/// the token of a person who holds `SuperUser` on all queues.
-pub(crate) fn control_of(settings: &Settings, read: &Result<Request, WireFault>) -> Control
+/// What was read asks of the server itself, where who sent it may: a POST of `/stop` or `/copy`
+/// with the token of a person who holds `SuperUser` on all queues. A message that expects something
+/// asks for nothing yet.
+pub(crate) fn control_by(
+    expects: bool,
+    settings: &Settings,
+    read: &Result<Request, WireFault>,
+) -> Control
+    ensures { result ≡ form.control_by expects settings.now read.now }
+{
+    if expects {
+        Control::Nothing
+    } else {
+        control_of(settings, read)
+    }
+}
+
+fn control_of(settings: &Settings, read: &Result<Request, WireFault>) -> Control
     ensures { result ≡ form.control_of settings.now read.now }
 {
     match read {
@@ -110,11 +125,11 @@ fn is_stop(control: Control) -> bool
 }
 
 /// Copies the tables, where that is asked for. Whether a copy was made.
-pub(crate) fn copy_if<C: Copies>(control: Control, copies: &mut C) -> bool
-    ensures { CopiesBy control result (C.made copies.old) (C.made copies.new) }
+pub(crate) fn copy_if<C: System>(control: Control, system: &mut C) -> bool
+    ensures { CopiesBy control result (C.made system.old) (C.made system.new) }
 {
     match control {
-        Control::Copy => copies.copy(),
+        Control::Copy => system.copy(),
         Control::Nothing | Control::Stop => false,
     }
 }

@@ -8,14 +8,15 @@ use std::alloc::Global;
 use store_core::Backend;
 use wire_core::Routes;
 
-/// A desk over tables, and what copies them; whether it was seen that its store is shut, and whether
-/// somebody who may has asked the server to stop. A fault of the disk shuts a store for good, and then
-/// no command is done any more. Behind a proxy the log notes the address that the proxy tells.
+/// A desk over tables, and what its server has of the system; whether it was seen that its store is
+/// shut, and whether somebody who may has asked the server to stop. A fault of the disk shuts a
+/// store for good, and then no command is done any more. Behind a proxy the log notes the address
+/// that the proxy tells.
 #[derive(Drop)]
 pub struct WebDesk<S: Backend, C> {
     pub(crate) desk: Desk<S>,
     pub(crate) routes: Option<Routes>,
-    pub(crate) copies: C,
+    pub(crate) system: C,
     pub(crate) is_shut: bool,
     pub(crate) stops: bool,
     pub(crate) proxied: bool,
@@ -23,9 +24,9 @@ pub struct WebDesk<S: Backend, C> {
 }
 
 impl<S: Backend, C> WebDesk<S, C> {
-    /// The desk, whose store counts as open and which nobody has asked to stop, and the router of its
-    /// paths. Where there is no memory for that one the paths are gone over without it.
-    pub fn new(alloc: Global, desk: Desk<S>, copies: C, proxied: bool) -> WebDesk<S, C>
+    /// The desk, whose store counts as open and which nobody has asked to stop, and the router of
+    /// its paths. Where there is no memory for that one the paths are gone over without it.
+    pub fn new(alloc: Global, desk: Desk<S>, system: C, proxied: bool) -> WebDesk<S, C>
         ensures desk { result.desk ≡ desk }
         ensures open { result.is_shut ≡ false }
         ensures goes { result.stops ≡ false }
@@ -34,7 +35,7 @@ impl<S: Backend, C> WebDesk<S, C> {
         WebDesk {
             desk,
             routes: Routes::new(alloc).ok(),
-            copies,
+            system,
             is_shut: false,
             stops: false,
             proxied,

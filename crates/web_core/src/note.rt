@@ -14,17 +14,18 @@ use settings_core::Settings;
 use std::alloc::{AllocError, Global};
 use text_core::Text;
 
-/// The note of what was read and of its reply; empty, where there is no memory for it.
+/// The note of what was read at a minute and of its reply; empty, where there is no memory for it.
 pub(crate) fn note_on(
     alloc: Global,
     proxied: bool,
     settings: &Settings,
+    at: u32,
     read: &Result<Request, WireFault>,
     reply: &[u8],
 ) -> Vec<u8>
-    ensures { IsNote proxied settings.now read.now reply.now result.items }
+    ensures { IsNote proxied settings.now at read.now reply.now result.items }
 {
-    match noted(alloc, proxied, settings, read, reply) {
+    match noted(alloc, proxied, settings, at, read, reply) {
         Ok(note) => note,
         Err(_) => Vec::new(alloc),
     }
@@ -35,13 +36,15 @@ fn noted(
     alloc: Global,
     proxied: bool,
     settings: &Settings,
+    at: u32,
     read: &Result<Request, WireFault>,
     reply: &[u8],
 ) -> Result<Vec<u8>, AllocError>
-    ensures { IfOk result (λ note. NotesRead proxied settings.now read.now reply.now note.items) }
+    ensures { IfOk result (λ note. NotesRead proxied settings.now at read.now reply.now
+        note.items) }
 {
     match read {
-        Ok(request) => note_in(alloc, proxied, settings, request, reply),
+        Ok(request) => note_in(alloc, proxied, settings, at, request, reply),
         Err(_) => {
             let nothing = Note {
                 forwarded: &[],
@@ -59,13 +62,14 @@ fn note_in(
     alloc: Global,
     proxied: bool,
     settings: &Settings,
+    at: u32,
     request: &Request,
     reply: &[u8],
 ) -> Result<Vec<u8>, AllocError>
-    ensures { IfOk result (λ note. NotesRead proxied settings.now (Ok request.now) reply.now
+    ensures { IfOk result (λ note. NotesRead proxied settings.now at (Ok request.now) reply.now
         note.items) }
 {
-    let person = person_in(alloc, settings, request)?;
+    let person = person_in(alloc, settings, at, request)?;
     let note = Note {
         forwarded: forwarded_in(proxied, request.head.as_slice()),
         person: bytes_of(&person),
@@ -99,18 +103,19 @@ fn forwarded_in(proxied: bool, head: &[u8]) -> &[u8]
     }
 }
 
-/// Whose token a message has.
+/// Whose cookie or token a message has at a minute.
 fn person_in(
     alloc: Global,
     settings: &Settings,
+    at: u32,
     request: &Request,
 ) -> Result<Option<Text>, AllocError>
     ensures { (h : RequestHead) → StartsWith request.now.head h []
         → IfOk result (λ person. unwrap_or person []
-        ≡ form.person_in settings.now request.now.message (values_in h)) }
+        ≡ form.person_in settings.now at request.now.message (values_in h)) }
 {
     if is_page_place(request.message.target.as_slice()) {
-        caller_of(alloc, settings, request)
+        caller_of(alloc, settings, at, request)
     } else {
         person_of(alloc, settings, &request.message.token)
     }

@@ -1,19 +1,20 @@
 //! A desk that answers messages over HTTP.
 ghost use Rattle.std.specs.Prelude.{◌≡◌, ◌≢◌, Err};
 ghost use Rattle.connection_core.specs.Reply.{bytes_of};
-ghost use Rattle.page_wire.specs.Steps.{IsReadOf};
 ghost use Rattle.service_core.specs.Leaves.{LeavesDesk};
 ghost use Rattle.service_core.specs.Seen.{settings_of, tables_of};
-ghost use Rattle.web_core.specs.Control.{IsTold, control_of as asked_of};
-ghost use Rattle.web_core.specs.Messages.{IsRepliedOn};
+ghost use Rattle.web_core.specs.Control.{IsTold, control_by as asked_by};
+ghost use Rattle.web_core.specs.Messages.{IsRepliedOn, IsTakenAs, TellsExpecting};
 
-use crate::control::{Control, control_of, copy_if, copy_reply, stop_reply, stops_then};
-use crate::copies::Copies;
+use crate::control::{Control, control_by, copy_if, copy_reply, stop_reply, stops_then};
+use crate::date::with_date;
 use crate::desk::WebDesk;
 use crate::note::note_on;
 use crate::shut::is_seen_shut;
+use crate::system::System;
 use connection_core::{Framing, Reply};
-use message_core::{BodyLimit, Request, WireFault, stated_body, unavailable_reply};
+use http_rules::{by_rules, expectation_failed, is_expecting, stated_by_rules};
+use message_core::{Request, WireFault, unavailable_reply};
 use page_wire::{answer_sent, read_sent};
 use server_core;
 use server_core::Answer;
@@ -23,25 +24,31 @@ use store_core::Backend;
 use wire_core::Routes;
 
 /// The reply to what was read of this message, after its step: what it asks of the server itself is
-/// told. Where memory is refused nothing is done, and the reply says so.
+/// told, and where it expects something nothing is done. Where memory is refused nothing is done
+/// either, and the reply says so.
 #[tactic(auto, using(service_core::proofs::LeftLemmas::left_same))]
 fn answer_to<S: Backend>(
     alloc: Global,
     routes: Option<&Routes>,
     minute: u32,
     _message: &[u8],
+    expects: bool,
     read: &Result<Request, WireFault>,
     control: Control,
     copied: bool,
     desk: &mut Desk<S>,
 ) -> Reply
-    requires read { read.now ≢ Err WireFault.NoMemory → IsReadOf _message.now read.now }
-    requires control { control ≡ asked_of (settings_of S.Store desk.old) read.now }
+    requires expects { TellsExpecting _message.now expects }
+    requires read { read.now ≢ Err WireFault.NoMemory → IsTakenAs _message.now read.now }
+    requires control { control ≡ asked_by expects (settings_of S.Store desk.old) read.now }
     ensures step { IsRepliedOn (settings_of S.Store desk.old) (minute, _message.now)
         (bytes_of result) (tables_of S.Store desk.old) (tables_of S.Store desk.new) }
     ensures told { IsTold control copied (bytes_of result) }
     ensures left { LeavesDesk S.Store desk.old desk.new }
 {
+    if expects {
+        return Reply::Fixed(expectation_failed());
+    }
     match control {
         Control::Nothing => match answer_sent(alloc, routes, read, minute, desk) {
             Ok(reply) => Reply::Made(reply),
@@ -52,36 +59,44 @@ fn answer_to<S: Backend>(
     }
 }
 
-impl<S: Backend, C: Copies> Framing for WebDesk<S, C> {
-    ghost use Rattle.message_core.specs.Stated.{States as StatesWithin};
-    ghost use Rattle.message_core.specs.declared.limits.BodyLimit.TheVariants.{ByPlace};
+/// What the bytes of a message are read as, by HTTP's rules.
+fn taken(alloc: Global, message: &[u8]) -> Result<Request, WireFault>
+    ensures { result ≢ Err WireFault.NoMemory → IsTakenAs message.now result }
+{
+    by_rules(alloc, read_sent(alloc, message))
+}
 
-    ghost States = { StatesWithin ByPlace };
+impl<S: Backend, C: System> Framing for WebDesk<S, C> {
+    ghost use Rattle.http_rules.specs.Expectation.{StatesByRules};
+
+    ghost States = { StatesByRules };
 
     ghost limit = { 262144 };
 
     fn stated(head: &[u8]) -> Option<u32> {
-        stated_body(head, BodyLimit::ByPlace)
+        stated_by_rules(head)
     }
 }
 
-impl<S: Backend, C: Copies> server_core::Desk for WebDesk<S, C> {
+impl<S: Backend, C: System> server_core::Desk for WebDesk<S, C> {
     ghost use Rattle.web_core.specs.Web as web;
 
-    ghost Steps = { web.Steps S.Store C.made };
+    ghost Steps = { web.Steps S.Store C.made C.told };
 
     ghost shuts = { web.shuts S.Store };
 
     fn step(&mut self, alloc: Global, minute: u32, message: &[u8]) -> Answer {
-        let read = read_sent(alloc, message);
-        let control = control_of(self.desk.settings(), &read);
-        let copied = copy_if(control, &mut self.copies);
+        let expects = is_expecting(message);
+        let read = taken(alloc, message);
+        let control = control_by(expects, self.desk.settings(), &read);
+        let copied = copy_if(control, &mut self.system);
         let routes = self.routes.as_ref();
-        let reply = answer_to(
+        let whole = answer_to(
             alloc,
             routes,
             minute,
             message,
+            expects,
             &read,
             control,
             copied,
@@ -91,9 +106,11 @@ impl<S: Backend, C: Copies> server_core::Desk for WebDesk<S, C> {
             alloc,
             self.proxied,
             self.desk.settings(),
+            minute,
             &read,
-            reply.bytes(),
+            whole.bytes(),
         );
+        let reply = with_date(alloc, self.system.second(), whole);
         drop(read);
         self.stops = stops_then(self.stops, control);
         self.is_shut = is_seen_shut(&mut self.desk);

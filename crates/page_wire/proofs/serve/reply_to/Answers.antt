@@ -19,6 +19,6 @@ returns-in-Ok-clause-ok g c =
     c.tell_visit-made.result c.tell_visit-made.new.room.items
     (tables_of g.S.Store c.args.desk.now) (tables_of g.S.Store c.tell_visit-made.new.desk)
     (λ head starts.
-    subst (λ (s : Settings). visit_of s c.args.request.now.message (values_in head)
+    subst (λ (s : Settings). visit_of s c.args.at c.args.request.now.message (values_in head)
     ≡ Ok c.in-Ok.visit) c.settings.ensures (c.in-Ok.ensures.ok head starts))
     steps

@@ -1,0 +1,4 @@
+pub mod Cuts
+mod Examples
+pub mod Paths
+pub mod Stated

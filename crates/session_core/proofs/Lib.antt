@@ -1,0 +1,5 @@
+pub mod Differences
+mod Examples
+pub mod Numbers
+pub mod Seals
+pub mod Sessions

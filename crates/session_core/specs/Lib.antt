@@ -1,0 +1,4 @@
+pub mod Hmac
+pub mod Laws
+pub mod Seal
+pub mod Sessions
