@@ -63,9 +63,10 @@ install: desk
 	install -D -m 755 bin/desk_web $(PREFIX)/bin/desk_web
 	install -D -m 755 bin/desk_ask $(PREFIX)/bin/desk_ask
 	install -D -m 755 bin/desk_load $(PREFIX)/bin/desk_load
-	install -D -m 644 docs/desk.1 $(PREFIX)/share/man/man1/desk.1
+	install -d $(PREFIX)/share/man/man1
+	docs/man desk > $(PREFIX)/share/man/man1/desk.1
+	docs/man desk_ask > $(PREFIX)/share/man/man1/desk_ask.1
 	install -D -m 644 docs/desk_web.1 $(PREFIX)/share/man/man1/desk_web.1
-	install -D -m 644 docs/ask.1 $(PREFIX)/share/man/man1/desk_ask.1
 	install -D -m 644 docs/load.1 $(PREFIX)/share/man/man1/desk_load.1
 	install -D -m 644 examples/desk_ask.bash $(PREFIX)/share/bash-completion/completions/desk_ask
 
