@@ -4,6 +4,7 @@
 mod check;
 mod files;
 mod load;
+mod new_token;
 mod options;
 mod progress;
 mod tables;
@@ -25,8 +26,8 @@ const FAILED_WRITE: u8 = 4;
 /// file, and prints each answer that tells more than that a command is done, with its line's number.
 /// With `--all` it prints each, with `--stop` the first refusal ends it, and with `--from N` it
 /// begins with line N. With `--check` it reads no line, and prints what is wrong first with the
-/// settings and the file. `--help` and `--version` tell of
-/// it. All else is `bad words`.
+/// settings and the file. `--new-token PERSON`, alone, prints a line with a token for the settings.
+/// `--help` and `--version` tell of it. All else is `bad words`.
 fn main(rt: HostRuntime) -> ExitCode {
     match words_of(&rt) {
         Ok(words) => ExitCode::from(run(&rt, words.as_slice())),
@@ -49,6 +50,9 @@ fn run(rt: &HostRuntime, words: &[String]) -> u8 {
             Ok(()) => 0,
             Err(_) => FAILED_WRITE,
         };
+    }
+    if let Some(person) = new_token::person_of(words) {
+        return new_token::run(rt, person);
     }
     match asked_of(rt.alloc(), words) {
         Some(asked) => match asked.task {

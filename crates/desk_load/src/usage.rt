@@ -14,8 +14,18 @@ Options:
   --stop            End at the first refusal
   --from N          Begin with line N
   --check           Read no line: tell what is wrong first with the settings and the tables
+  --new-token PERSON
+                    Alone: print a new token for a person, as a line of the settings
   --help            Print help, alone
   --version         Print the version, alone";
 
 /// The names of its options.
-pub const OPTIONS: [&str; 6] = ["db", "settings", "all", "stop", "from", "check"];
+pub const OPTIONS: [&str; 7] = [
+    "db",
+    "settings",
+    "all",
+    "stop",
+    "from",
+    "check",
+    "new-token",
+];
