@@ -33,9 +33,11 @@ look:
 # built before go first, or it would put them back in their place. The office that users copy is the
 # one that the cases read.
 test:
+	@date '+%T: the proofs begin'
 	cmp examples/office.toml crates/suite/data/texts/office.toml
 	rm -rf crates/*/out/rlib
 	RT_JOBS=$(JOBS) rt ci
+	@date '+%T: the edits begin'
 	bench/edits-judge
 	RT_JOBS=$(JOBS) bench/edits --after-ci $(EDITED)
 
