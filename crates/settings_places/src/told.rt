@@ -33,14 +33,27 @@ impl fmt::Display for TableNamed<'_> {
     }
 }
 
+/// A key of a table. Of a token only that it is one, since whoever knows it is its person.
+#[derive(Clone, Copy)]
+struct KeyNamed<'t> {
+    found: KeyAt<'t>,
+}
+
+impl fmt::Display for KeyNamed<'_> {
+    fn fmt<W: fmt::Write>(&self, f: &mut fmt::Formatter<W>) -> fmt::Result {
+        let KeyAt { place, path, key } = self.found;
+        let table = TableNamed { place, path };
+        match place {
+            Place::Tokens => write!(f, "a token of {table}"),
+            _ => write!(f, "the key `{key}` of {table}"),
+        }
+    }
+}
+
 impl fmt::Display for FaultPlace<'_> {
     fn fmt<W: fmt::Write>(&self, f: &mut fmt::Formatter<W>) -> fmt::Result {
         match *self {
-            FaultPlace::Key(KeyAt { place, path, key }) => write!(
-                f,
-                "the key `{key}` of {}",
-                TableNamed { place, path }
-            ),
+            FaultPlace::Key(found) => write!(f, "{}", KeyNamed { found }),
             FaultPlace::Calendar(name) => write!(f, "[calendar.{name}]"),
             FaultPlace::Lifecycle(name) => write!(f, "[lifecycle.{name}]"),
             FaultPlace::Person(name)
