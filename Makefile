@@ -92,11 +92,12 @@ trials: desk
 	trials/judges_web
 	trials/judges_browser
 
-# What tries the package and the page on running a desk, on a clean Debian with a systemd of its own. Run
-# by root; trials/README.md says what it needs.
+# What tries the package and the page on running a desk, on a clean Debian with a systemd of its own, and
+# then their judge on stubs. Run by root; trials/README.md says what it needs.
 trials-of-a-server: package
 	trials/package
 	trials/operate
+	trials/judges_operate
 
 # The rules told twice: what they come to is compared with what is stored, in a few seconds.
 models:
