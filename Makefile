@@ -48,7 +48,7 @@ edits:
 # The proved programs, as bin/desk, bin/desk_web, bin/desk_ask and bin/desk_load. From nothing it
 # takes half an hour to an hour on four cores. Without options desk_web has nothing to serve, desk_ask
 # nothing to ask and desk_load nothing to load into: all three end with 2. The commit and the toolchain
-# are written into desk_ask at the end, for `--version`.
+# are written into these three at the end, for `--version`.
 desk:
 	cd crates/desk && rt run < ../../examples/printer.desk
 	cd crates/desk_web && { rt run; test $$? -eq 2; }
@@ -57,7 +57,7 @@ desk:
 	mkdir -p bin
 	cp crates/desk/out/desk crates/desk_web/out/desk_web crates/desk_ask/out/desk_ask bin
 	cp crates/desk_load/out/desk_load bin
-	package/stamp bin/desk_ask
+	package/stamp bin/desk_web bin/desk_ask bin/desk_load
 
 # The programs, the manual pages and what bash offers, below PREFIX.
 install: desk
@@ -95,11 +95,12 @@ trials: desk
 	trials/judges_web
 	trials/judges_browser
 
-# What tries the package and the page on running a desk, on a clean Debian with a systemd of its own. Run
-# by root; trials/README.md says what it needs.
+# What tries the package and the page on running a desk, on a clean Debian with a systemd of its own, and
+# then their judge on stubs. Run by root; trials/README.md says what it needs.
 trials-of-a-server: package
 	trials/package
 	trials/operate
+	trials/judges_operate
 
 # The rules told twice: what they come to is compared with what is stored, in a few seconds.
 models:

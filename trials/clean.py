@@ -11,9 +11,9 @@ import time
 
 BASE = os.environ.get("DESK_ROOT", "/var/tmp/desk-clean-root")
 RELEASE = "bookworm"
-# what a server has, and what the package recommends
-PACKAGES = ("adduser bash-completion ca-certificates curl dbus man-db nginx-light openssl procps psmisc sqlite3 "
-            "systemd systemd-sysv")
+# what a server has, what the package recommends, and what makes a clock stand wrong
+PACKAGES = ("adduser bash-completion ca-certificates curl dbus faketime man-db nginx-light openssl procps psmisc "
+            "sqlite3 systemd systemd-sysv")
 ENV = {"PATH": "/usr/local/sbin:/usr/local/bin:/usr/sbin:/usr/bin:/sbin:/bin", "HOME": "/root",
        "LANG": "C.UTF-8", "TERM": "dumb"}
 
