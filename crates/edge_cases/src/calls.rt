@@ -12,7 +12,7 @@ use service_core::{AttachFault, Desk, StreamFault};
 use settings_core::{Settings, SettingsFault};
 use std::alloc::{AllocError, Global};
 use std::io::{Read, Write};
-use std::net::{OpenListener, TcpListener};
+use std::net::OpenListener;
 use std::time::Clock;
 use store_core::{Backend, Store, StoreFault};
 use stream_core::{CountedReader, CountedWriter};
@@ -170,16 +170,6 @@ pub(crate) fn load<S: Backend, R: Read, W: Write, P: Progress>(
 ) -> Loaded {
     let mut output = CountedWriter::new(writer);
     load_core::load(alloc, desk, plan, reader, &mut output, progress)
-}
-
-/// Answers one connection, and tells the status.
-pub(crate) fn serve_first<S: Backend>(
-    rt: &HostRuntime,
-    listener: &TcpListener,
-    desk: &mut Desk<S>,
-) -> u8 {
-    let mut counted = CountedListener::new(listener);
-    serve_on(rt.alloc(), &mut counted, 1, rt, desk)
 }
 
 /// How a server ended, and what its listener counted.

@@ -124,10 +124,11 @@ fn run_alone<S: Backend + Drop>(
 ) -> Result<(), Failure> {
     let words = words_of(alloc, line)?;
     let single = single_of(settings, words.as_slice())?;
-    let mut text = Vec::new(alloc);
-    let (status, _, store) = calls::run_alone(alloc, store, single, &mut text);
+    let mut writer = Faltering::never(alloc);
+    let (status, _, store) = calls::run_alone(alloc, store, single, &mut writer);
     drop(store);
-    writeln!(out, "{line}: status {status}\n{}", str_of(text.as_slice()))?;
+    let text = str_of(writer.taken.as_slice());
+    writeln!(out, "{line}: status {status}\n{text}")?;
     Ok(())
 }
 

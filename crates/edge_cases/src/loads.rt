@@ -126,8 +126,8 @@ fn run_load<S: Backend + Drop>(
     store: Store<S>,
     load: Load<'_>,
 ) -> Result<Option<Store<S>>, Failure> {
-    let mut written = Vec::new(alloc);
-    match open(alloc, store, load.settings, &mut written) {
+    let mut writer = Faltering::never(alloc);
+    match open(alloc, store, load.settings, &mut writer) {
         Ok(desk) => {
             let mut desk = desk;
             let told = load_on(alloc, out, &mut desk, load);
@@ -142,7 +142,7 @@ fn run_load<S: Backend + Drop>(
             }
         }
         Err(status) => {
-            let text = str_of(written.as_slice());
+            let text = str_of(writer.taken.as_slice());
             writeln!(out, "{text}no desk: status {status}")?;
             Ok(None)
         }
@@ -203,14 +203,14 @@ pub(crate) fn loaded_on<S: Backend>(
         all: true,
         stop: true,
     };
-    let mut reader = lines.as_bytes();
-    let mut written = Vec::new(alloc);
-    let loaded = calls::load(alloc, desk, plan, &mut reader, &mut written, &mut Last(0));
+    let mut reader = Slow::at_once(lines.as_bytes());
+    let mut writer = Faltering::never(alloc);
+    let loaded = calls::load(alloc, desk, plan, &mut reader, &mut writer, &mut Last(0));
     let answered = usize::try_from(loaded.answered).ok()?;
     let reached = from.saturating_add(answered);
     if !loaded.refused {
         Some(reached)
-    } else if written.as_slice().ends_with(UNAVAILABLE) {
+    } else if writer.taken.as_slice().ends_with(UNAVAILABLE) {
         reached.checked_sub(1)
     } else {
         None

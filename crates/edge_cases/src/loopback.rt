@@ -1,6 +1,6 @@
 //! Messages that go over the loopback, in one thread.
 
-use crate::calls::{serve_connections, serve_first};
+use crate::calls::serve_connections;
 use crate::connections::put_served;
 use crate::failure::Failure;
 use crate::served::{Sent, put_reply};
@@ -21,7 +21,7 @@ pub(crate) fn answer_by_loopback<S: Backend>(
         let listener = TcpListener::bind(rt, "127.0.0.1:0")?;
         let mut client = TcpStream::connect(rt, listener.local_addr()?)?;
         client.write_all(message.1.as_slice())?;
-        let status = serve_first(rt, &listener, desk);
+        let status = serve_connections(rt.alloc(), &listener, 1, rt, desk).status;
         let mut reply = Vec::new(rt.alloc());
         client.read_to_end(&mut reply)?;
         put_reply(rt.alloc(), out, reply.as_slice(), Ok(()))?;

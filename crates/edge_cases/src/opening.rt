@@ -89,7 +89,7 @@ pub(crate) fn run<S: Backend + Drop, O: tables::Opening<Connection<S>>>(
 fn taken(alloc: Global, settings: &[u8], fails_at: Option<u32>) -> Result<Vec<u8>, InputFault> {
     match fails_at {
         Some(reads) => take(alloc, &mut Slow::failing(settings, reads)),
-        None => take(alloc, &mut { settings }),
+        None => take(alloc, &mut Slow::at_once(settings)),
     }
 }
 

@@ -57,10 +57,10 @@ fn by_writer(
 
 fn slow(alloc: Global, out: &mut String, line: &str, reader: Slow<'_>) -> Result<(), Failure> {
     let mut reader = reader;
-    let mut written = Vec::new(alloc);
-    let ended = run_counted(alloc, &mut reader, &mut written);
+    let mut writer = Faltering::never(alloc);
+    let ended = run_counted(alloc, &mut reader, &mut writer);
     let calls = (reader.reads, ended.reads);
-    tell(out, line, ended, calls, written.as_slice())
+    tell(out, line, ended, calls, writer.taken.as_slice())
 }
 
 fn faltering(
@@ -71,7 +71,7 @@ fn faltering(
     falters_at: u32,
     fails: bool,
 ) -> Result<(), Failure> {
-    let mut reader = script;
+    let mut reader = Slow::at_once(script);
     let mut writer = Faltering::after(alloc, falters_at, fails);
     let ended = run_counted(alloc, &mut reader, &mut writer);
     let calls = (writer.writes, ended.writes);

@@ -130,9 +130,9 @@ fn before_others<S: Backend>(
 ) -> Result<(), Failure> {
     for message in sent {
         let mut reader = Slow::endless(message.1.as_slice());
-        let mut written = Vec::new(alloc);
-        let ended = calls::serve(alloc, &mut reader, &mut written, message.0, desk);
-        put_reply(alloc, out, written.as_slice(), ended)?;
+        let mut writer = Faltering::never(alloc);
+        let ended = calls::serve(alloc, &mut reader, &mut writer, message.0, desk);
+        put_reply(alloc, out, writer.taken.as_slice(), ended)?;
         let most = if reader.reads <= MOST_READS {
             "at most"
         } else {

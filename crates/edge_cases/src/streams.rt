@@ -1,14 +1,18 @@
 //! Readers and writers that do less than they could.
+//!
+//! All cases read by this one reader and write by this one writer, also where neither fails: each
+//! more type is what the product does once more, in the program that is built and in its proof.
 
 use std::alloc::Global;
 use std::io::{Error, ErrorKind, Read, Result, Write};
 
-/// A reader that gives one byte at a time. It may fail after a number of reads, or never end: then
-/// other bytes come after its own.
+/// A reader that gives one byte at a time, or all that there is room for. It may fail after a number
+/// of reads, or never end: then other bytes come after its own.
 #[derive(Drop)]
 pub(crate) struct Slow<'b> {
     pub(crate) bytes: &'b [u8],
     pub(crate) reads: u32,
+    most: usize,
     fails_at: Option<u32>,
     ends: bool,
 }
@@ -18,8 +22,17 @@ impl<'b> Slow<'b> {
         Slow {
             bytes,
             reads: 0,
+            most: 1,
             fails_at: None,
             ends: true,
+        }
+    }
+
+    /// One that gives all that there is room for.
+    pub(crate) fn at_once(bytes: &'b [u8]) -> Slow<'b> {
+        Slow {
+            most: usize::MAX,
+            ..Slow::over(bytes)
         }
     }
 
@@ -38,6 +51,17 @@ impl<'b> Slow<'b> {
     }
 }
 
+impl Slow<'_> {
+    /// Gives bytes of its own: how many.
+    fn give(&mut self, buf: &mut [u8]) -> usize {
+        let count = self.bytes.len().min(buf.len()).min(self.most);
+        let (given, rest) = self.bytes.split_at(count);
+        buf[..count].copy_from_slice(given);
+        self.bytes = rest;
+        count
+    }
+}
+
 impl Read for Slow<'_> {
     fn read(&mut self, buf: &mut [u8]) -> Result<usize> {
         let fails = self.fails_at == Some(self.reads);
@@ -45,27 +69,26 @@ impl Read for Slow<'_> {
         if fails {
             return Err(Error::from(ErrorKind::BrokenPipe));
         }
-        if buf.is_empty() {
-            return Ok(0);
+        if !self.bytes.is_empty() || self.ends {
+            return Ok(self.give(buf));
         }
-        match self.bytes.split_first() {
-            Some((first, rest)) => {
-                buf[0] = *first;
-                self.bytes = rest;
+        match buf.first_mut() {
+            Some(byte) => {
+                *byte = b'#';
+                Ok(1)
             }
-            None if self.ends => return Ok(0),
-            None => buf[0] = b'#',
+            None => Ok(0),
         }
-        Ok(1)
     }
 }
 
-/// A writer that takes a byte at a time, but for one write that fails, or takes none. It would take
-/// more afterwards.
+/// A writer that takes a byte at a time, or all, but for one write that fails, or takes none. It
+/// would take more afterwards.
 #[derive(Drop)]
 pub(crate) struct Faltering {
     pub(crate) taken: Vec<u8>,
     pub(crate) writes: u32,
+    most: usize,
     falters_at: u32,
     fails: bool,
 }
@@ -76,8 +99,20 @@ impl Faltering {
         Faltering {
             taken: Vec::new(alloc),
             writes: 0,
+            most: 1,
             falters_at,
             fails,
+        }
+    }
+
+    /// One that takes all.
+    pub(crate) fn never(alloc: Global) -> Faltering {
+        Faltering {
+            taken: Vec::new(alloc),
+            writes: 0,
+            most: usize::MAX,
+            falters_at: u32::MAX,
+            fails: true,
         }
     }
 }
@@ -86,13 +121,14 @@ impl Write for Faltering {
     fn write(&mut self, buf: &[u8]) -> Result<usize> {
         let falters = self.writes == self.falters_at;
         self.writes = self.writes.saturating_add(1);
-        match buf.first() {
-            Some(byte) if !falters => {
-                self.taken.push(*byte)?;
-                Ok(1)
-            }
-            _ if self.fails => Err(Error::from(ErrorKind::BrokenPipe)),
-            _ => Ok(0),
+        if !falters && !buf.is_empty() {
+            let count = buf.len().min(self.most);
+            self.taken.extend_from_slice(&buf[..count])?;
+            Ok(count)
+        } else if self.fails {
+            Err(Error::from(ErrorKind::BrokenPipe))
+        } else {
+            Ok(0)
         }
     }
 
