@@ -51,17 +51,6 @@ impl<'b> Slow<'b> {
     }
 }
 
-impl Slow<'_> {
-    /// Gives bytes of its own: how many.
-    fn give(&mut self, buf: &mut [u8]) -> usize {
-        let count = self.bytes.len().min(buf.len()).min(self.most);
-        let (given, rest) = self.bytes.split_at(count);
-        buf[..count].copy_from_slice(given);
-        self.bytes = rest;
-        count
-    }
-}
-
 impl Read for Slow<'_> {
     fn read(&mut self, buf: &mut [u8]) -> Result<usize> {
         let fails = self.fails_at == Some(self.reads);
@@ -69,16 +58,21 @@ impl Read for Slow<'_> {
         if fails {
             return Err(Error::from(ErrorKind::BrokenPipe));
         }
-        if !self.bytes.is_empty() || self.ends {
-            return Ok(self.give(buf));
+        if !self.ends && self.bytes.is_empty() && !buf.is_empty() {
+            buf[0] = b'#';
+            return Ok(1);
         }
-        match buf.first_mut() {
-            Some(byte) => {
-                *byte = b'#';
-                Ok(1)
+        let count = self.most.min(self.bytes.len()).min(buf.len());
+        for place in 0..count {
+            match self.bytes.split_first() {
+                Some((first, rest)) => {
+                    buf[place] = *first;
+                    self.bytes = rest;
+                }
+                None => return Ok(place),
             }
-            None => Ok(0),
         }
+        Ok(count)
     }
 }
 
