@@ -41,10 +41,11 @@ LIFECYCLE = Table("[lifecycle.{key}]",
                    "rights": Table("[lifecycle.{around}.{key}]", free=(MOVE, ANY))},
                   ("initial", "active", "create", "on_create"))
 GRANT = Table("[[grant]] {number}", {"to": TO, "rights": many(ANY), "queue": ANY}, ("to", "rights"))
+TOKENS = Table("[{key}]", free=(ANY, ANY))
 TOP = Table("the text", {
     "max_requests": INTEGER, "max_entries": INTEGER, "persons": many(ANY),
     "groups": Table("[{key}]", free=(ANY, many(ANY))), "grant": many(GRANT),
-    "tokens": Table("[{key}]", free=(ANY, ANY)),
+    "tokens": TOKENS,
     "lifecycle": Table("[{key}]", free=(NAME, LIFECYCLE)),
     "calendar": Table("[{key}]", free=(NAME, CALENDAR)), "level": Table("[{key}]", free=(NAME, LEVEL))})
 
@@ -129,7 +130,9 @@ def formed(fault, form, table, around="", key="", number=0):
     found = own_key(fault, form, table)
     if found is not None:
         named = form.named.format(around=around, key=key, number=number)
-        return f"the key `{found}` of {named}", form, table, found
+        # (a token is told nobody)
+        what = "a token" if form is TOKENS else f"the key `{found}`"
+        return f"{what} of {named}", form, table, found
     for inner in in_order(table):
         kind, value = form.kind_of(inner), table[inner]
         if isinstance(kind, Table) and isinstance(value, dict):

@@ -1,1 +1,2 @@
-pub mod FirstBad
+pub mod BadRows
+pub mod Kinds
