@@ -1,2 +1,3 @@
 pub mod BadRows
 pub mod Kinds
+pub mod Telling
