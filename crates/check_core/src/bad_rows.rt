@@ -43,7 +43,11 @@ pub fn bad_row<S: Alter>(
 {
     for table in tested {
         if let Some((row, at)) = bad_of(tables, *table)? {
-            return Ok(Some(BadRow { table: *table, row, at }));
+            return Ok(Some(BadRow {
+                table: *table,
+                row,
+                at,
+            }));
         }
     }
     Ok(None)

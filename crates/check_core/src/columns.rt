@@ -71,7 +71,13 @@ pub fn tested_tables() -> &'static [Table]
 pub fn first_tables() -> &'static [Table]
     ensures { result.now ≡ spec.first_tables }
 {
-    &[Table::Request, Table::Queue, Table::Link, Table::Entry, Table::Watcher]
+    &[
+        Table::Request,
+        Table::Queue,
+        Table::Link,
+        Table::Entry,
+        Table::Watcher,
+    ]
 }
 
 /// The statement that reads the columns of a table that are tested, by its key.
@@ -87,7 +93,8 @@ pub fn statement_of(table: Table) -> &'static str
         Table::Link => "SELECT source, kind, target FROM link ORDER BY source, kind, target",
         Table::Entry => "SELECT request, number, moment, actor, kind FROM entry ORDER BY request, \
             number",
-        Table::Watcher => "SELECT request, role, person FROM watcher ORDER BY request, role, person",
+        Table::Watcher =>
+            "SELECT request, role, person FROM watcher ORDER BY request, role, person",
     }
 }
 

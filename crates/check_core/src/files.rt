@@ -91,7 +91,7 @@ fn finding_in_tables(
 
 /// What is wrong with tables, in words: of a row that is no value of its type its table, its key and
 /// the column.
-fn wrong_told<S: Backend>(
+fn wrong_told<S: Backend + Drop>(
     alloc: Global,
     store: Store<S>,
     wrong: Wrong,
@@ -108,7 +108,7 @@ fn wrong_told<S: Backend>(
 }
 
 /// The first row of these tables that is no value of its type, in words, or else the fault.
-fn row_told<S: Backend>(
+fn row_told<S: Backend + Drop>(
     alloc: Global,
     store: Store<S>,
     tested: &[Table],
