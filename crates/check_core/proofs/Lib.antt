@@ -1,3 +1,4 @@
 pub mod BadRows
 pub mod Kinds
+pub mod Searching
 pub mod Telling

@@ -42,12 +42,14 @@ pub fn bad_row<S: Alter>(
     ensures kept { Spares (seen S.Store tables.old) (seen S.Store tables.new) }
 {
     for table in tested {
-        if let Some((row, at)) = bad_of(tables, *table)? {
-            return Ok(Some(BadRow {
+        let found = bad_of(tables, *table)?;
+        match found {
+            Some((row, at)) => return Ok(Some(BadRow {
                 table: *table,
                 row,
                 at,
-            }));
+            })),
+            None => {}
         }
     }
     Ok(None)
@@ -87,8 +89,9 @@ fn bad_among(kinds: &[Kind], rows: &[Row]) -> Result<Option<(Row, usize)>, Alloc
     ensures { IfOk result (IsFirstRow kinds.now rows.now) }
 {
     for row in rows {
-        if let Some(at) = misfit(kinds, row) {
-            return Ok(Some((row.copy()?, at)));
+        match misfit(kinds, row) {
+            Some(at) => return Ok(Some((row.copy()?, at))),
+            None => {}
         }
     }
     Ok(None)
