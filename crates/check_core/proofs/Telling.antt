@@ -1,6 +1,6 @@
 -- What is told of tables, by what was read of them.
 use Rattle.std.proofs.Common.{◌≡◌, ◌⊎◌, Bool, false, true, inl, inr, ap, refl, ◌∙◌, sym}
-use Rattle.std.proofs.Common.{Err, IfErr, None, Ok, OnOk, Option, Result, Some, ⊤}
+use Rattle.std.proofs.Common.{Err, None, Option, Result, Some, String, ⊤}
 use Rattle.sqlite.specs.State.{State, HasCleanDisk}
 use Rattle.settings_core.specs.declared.settings.Settings.{Settings}
 use Rattle.desk_model.specs.Desk.{Desk}
