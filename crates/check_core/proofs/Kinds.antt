@@ -1,6 +1,7 @@
 -- A row whose columns are of their kinds is one of a value, and the other way round.
 use Rattle.std.proofs.Common.{◌≡◌, ◌+◌, ◌≤◌, ℕ, zero, suc, List, [], ◌∷◌, None, Option, Some, inl, inr}
-use Rattle.std.proofs.Common.{arith, refl, ⊤}
+use Rattle.std.proofs.Common.{arith}
+use Rattle.std.specs.Prelude.{⊤}
 use Rattle.sqlite.specs.Order.{Row, column}
 use Rattle.sqlite.specs.declared.types.Value.{Value}
 use Rattle.desk_model.specs.declared.rows.EntryKind.TheVariants as what

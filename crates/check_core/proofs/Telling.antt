@@ -1,6 +1,7 @@
 -- What is told of tables, by what was read of them.
-use Rattle.std.proofs.Common.{◌≡◌, ◌⊎◌, Bool, false, true, inl, inr, ap, refl, ◌∙◌, sym}
-use Rattle.std.proofs.Common.{Err, None, Option, Result, Some, String, ⊤}
+use Rattle.std.proofs.Common.{◌≡◌, false, inr, ap, ◌∙◌, sym}
+use Rattle.std.proofs.Common.{Err, None, Option, Result, Some, String}
+use Rattle.std.specs.Prelude.{⊤}
 use Rattle.sqlite.specs.State.{State, HasCleanDisk}
 use Rattle.settings_core.specs.declared.settings.Settings.{Settings}
 use Rattle.desk_model.specs.Desk.{Desk}

@@ -1,10 +1,9 @@
 -- The tables whose rows are tested before settings are attached: what is read of each, in which
 -- order, and what stands in a column.
-use Rattle.std.specs.Prelude.{◌≡◌, ◌≤◌, ◌⊎◌, ℕ, List, [], ◌∷◌, ◌++◌, codes}
+use Rattle.std.specs.Prelude.{◌≡◌, ◌≤◌, ℕ, List, [], ◌∷◌, ◌++◌, codes}
 use Rattle.sqlite.specs.Order.{Row}
-use Rattle.sqlite.specs.Term.{Term, col}
+use Rattle.sqlite.specs.Term.{Term}
 use Rattle.sqlite.specs.declared.types.Value.{Value}
-use Rattle.sqlite.specs.declared.types.Value.TheVariants.{Null}
 use Rattle.store_tables.specs.Contents.Entry.{IsBareEntry, bare_shown, entry}
 use Rattle.store_tables.specs.Contents.Link.{IsLinkRow, link}
 use Rattle.store_tables.specs.Contents.Queue.{IsQueueRow, queue, queue_order, queue_shown}

@@ -1,5 +1,5 @@
 -- What is wrong with the tables of a desk, as settings are attached to them.
-use Rattle.std.specs.Prelude.{◌≡◌, ◌⊎◌, Err, None, Option, Some, Result, true, false, ⊤}
+use Rattle.std.specs.Prelude.{◌≡◌, ◌⊎◌, Err, None, Option, Some, Result, true, ⊤}
 use Rattle.sqlite.specs.State.{State, HasCleanDisk}
 use Rattle.settings_core.specs.declared.settings.Settings.{Settings}
 use Rattle.desk_model.specs.Desk.{Desk}

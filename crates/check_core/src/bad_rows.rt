@@ -1,6 +1,6 @@
 //! The first row of the tables that is no value of its type.
 
-ghost use Rattle.std.specs.Prelude.{◌≡◌, ◌≤◌, [], Decides, IfErr, IfOk, IfSome, None};
+ghost use Rattle.std.specs.Prelude.{◌≡◌, ◌≤◌, [], Decides, IfOk, IfSome, None};
 ghost use Rattle.std.specs.Option.{option_map};
 ghost use Rattle.sqlite.specs.Order.{column};
 ghost use Rattle.sqlite.specs.declared.types.Value.TheVariants.{Null};
