@@ -126,7 +126,7 @@ def choices(top, name):
 
 def find(top):
     main = top.one("main")
-    count = next(it for it in main.all("p") if it.text().startswith("Found:")).text().split()[1]
+    count = re.match(r"(?:\d+ to )?(?:\d+ of )?(\d+)", main.one("p", "paging").text())[1]
     later = any(it.marks.get("rel") == "next" for it in main.all("a"))
     return {"count": int(count), "rows": rows(main.one("table", "list")), "later": later}
 

@@ -1,5 +1,6 @@
 pub mod Ask
 pub mod Change
+pub mod Chips
 pub mod Facts
 pub mod Fault
 pub mod Fields
@@ -14,13 +15,16 @@ pub mod New
 pub mod Overdue
 pub mod Owner
 pub mod Owners
+pub mod Paging
 pub mod People
 pub mod Pieces
+pub mod Pills
 pub mod RefusalPage
 pub mod Refused
 pub mod Request
 pub mod Rows
 pub mod Search
 pub mod SignIn
+pub mod Sought
 pub mod Workload
 pub mod Write

@@ -35,9 +35,11 @@ ghost use Rattle.desk_pages.specs.Search.{chosen_in};
 ghost use Rattle.desk_pages.specs.SignIn.{sign_in_page};
 ghost use Rattle.desk_pages.specs.Workload.{late_told, workload_page};
 
-/// The page of a search tells by its markup what was ticked and chosen in its form, whether it is
-/// that of a queue, how many requests and requestors there are, which of them are due and which late,
-/// and whether there are pages before it and after it.
+/// The page of a search tells by its markup which parts are sought, where that is told; what was
+/// ticked and chosen in its form, and which of the choices that narrow it are the present ones;
+/// whether it is that of a queue, or of what is late; how many requests and requestors there are,
+/// which of them are due and which late; whether it has all that was found, one, or none; and whether
+/// there are pages before it and after it.
 pub fn find_page_law()
     ensures found { (caller other : List ℕ) (moment later : ℕ) (query asked : List ℕ)
         (start begin : Start) (form typed : FindForm) (page another : FoundPage)

@@ -7,6 +7,7 @@
 
 mod ask;
 mod change;
+mod chips;
 mod facts;
 mod fault;
 mod fields;
@@ -24,14 +25,17 @@ mod new;
 mod overdue;
 mod owner;
 mod owners;
+mod paging;
 mod people;
 mod pieces;
+mod pills;
 mod refusal;
 mod refused;
 mod request;
 mod rows;
 mod search;
 mod sign_in;
+mod sought;
 mod workload;
 mod write;
 

@@ -1,6 +1,6 @@
 -- Examples of the definitions: places in addresses at the greatest key, fields that no search has,
 -- each fault before those after it, days at both ends of all moments, and pages of 100 and 101 rows.
-use Rattle.std.specs.Prelude.{◌≡◌, refl, ℕ, zero, suc, ◌+◌, true, false, List, [], ◌∷◌, codes, Option}
+use Rattle.std.specs.Prelude.{◌≡◌, refl, ℕ, zero, suc, ◌+◌, true, false, List, [], ◌∷◌, ◌++◌, codes, Option}
 use Rattle.std.specs.Prelude.{Some, None, Ok, Err}
 use Rattle.std.specs.Fmt.{digits}
 use Rattle.browser_core.specs.declared.form.Field.{Field}
@@ -13,6 +13,7 @@ use Rattle.find_core.specs.declared.search.StatusAsked.TheVariants.{Any, One, Op
 use Rattle.find_form.specs.Address.{place_in, place_text}
 use Rattle.find_form.specs.Form.{form_in, form_of}
 use Rattle.find_form.specs.Own.{asked_by, owned_by, unowned}
+use Rattle.find_form.specs.Query.{is_other, others_of}
 use Rattle.find_form.specs.Shown.{found_page, is_back, place_of, shown}
 use Rattle.find_form.specs.Sought.{day_asked, descends, fault_of, first_of_day, order_asked}
 use Rattle.find_form.specs.Sought.{owner_asked, person_asked, search_of, sought, status_asked, words_in}
@@ -330,6 +331,51 @@ nobody's :
     ≡ sought (codes "ann") false
     (record blank { state = codes "open"; owner = codes "Nobody"; order = codes "due" })
 nobody's = refl
+
+-- Query.antt
+
+-- an address with words that are coded, an empty field and a field without a value
+abbrev address : List ℕ
+address = codes "words=paper%20jam&queue=general&state=open&owner=&late&order=due"
+
+fields_beside_the_owner :
+    others_of (codes "owner" ∷ []) address
+    ≡ codes "&words=paper%20jam&queue=general&state=open&order=due"
+fields_beside_the_owner = refl
+
+fields_beside_two :
+    others_of (codes "queue" ∷ codes "order" ∷ []) address
+    ≡ codes "&words=paper%20jam&state=open"
+fields_beside_two = refl
+
+no_fields : others_of (codes "owner" ∷ []) [] ≡ []
+no_fields = refl
+
+no_field_is_left : others_of (codes "owner" ∷ []) (codes "owner=bob") ≡ []
+no_field_is_left = refl
+
+name_that_begins_so : is_other (codes "to" ∷ []) (codes "token=1") ≡ true
+name_that_begins_so = refl
+
+-- the search with its owner changed
+owner_is_changed :
+    form_of (codes "owner=Me" ++ others_of (codes "owner" ∷ []) address)
+    ≡ Some
+    (record blank {
+      words = codes "paper jam";
+      queue = codes "general";
+      state = codes "open";
+      owner = codes "Me";
+      order = codes "due";
+    })
+owner_is_changed = refl
+
+-- its words taken away
+words_are_taken_away :
+    form_of (codes "words=" ++ others_of (codes "words" ∷ codes "replies" ∷ []) address)
+    ≡ Some
+    (record blank { queue = codes "general"; state = codes "open"; order = codes "due" })
+words_are_taken_away = refl
 
 -- Shown.antt
 

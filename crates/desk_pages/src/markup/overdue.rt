@@ -2,12 +2,13 @@
 
 /// The content up to the first row.
 pub(crate) const LATE_TOP: &str = r#"<h1>Late</h1>
-<fieldset class="show">
-<legend>Show</legend>
-<label><input type="radio" name="show" id="all" checked>all</label>
-<label><input type="radio" name="show" id="mine">mine</label>
-<label><input type="radio" name="show" id="nobody">nobody’s</label>
-</fieldset>
+<nav class="pills" aria-label="Narrow the list">
+<ul aria-label="Owner">
+<li><a href="/desk/overdue" aria-current="true">anyone’s</a></li>
+<li><a href="/desk/find?owner=Me&amp;late=yes&amp;order=due">mine</a></li>
+<li><a href="/desk/find?owner=Nobody&amp;late=yes&amp;order=due">nobody’s</a></li>
+</ul>
+</nav>
 <table class="late list">
 <caption>The requests that you may see and that are late, the longest first</caption>
 <thead><tr><th scope="col">Request</th><th scope="col">Queue</th><th scope="col">Owner</th><th scope="col">Due</th><th scope="col">Late by</th></tr></thead>
