@@ -21,16 +21,18 @@ abbrev pub most : List Load → ℕ
 most [] = 0
 most (load ∷ loads) = max load.live (most loads)
 
--- a row, for a caller, its bars drawn to this scale
+-- a row, for a caller, with links to what is counted, its bars drawn to this scale
 unfoldable pub load_row : List ℕ → ℕ → Load → List Part
 load_row caller whole load =
     filled LOAD_ROW.now
-    (or_nobody load.owner ∷ decimal load.live ∷ decimal load.overdue
+    (or_nobody load.owner ∷ or_nobody load.owner
+    ∷ or_nobody load.owner ∷ decimal load.live
+    ∷ or_nobody load.owner ∷ decimal load.overdue
     ∷ decimal whole ∷ decimal load.live ∷ decimal load.live
     ∷ decimal whole ∷ decimal load.overdue ∷ decimal load.overdue ∷ [])
     (is_of caller load.owner ∷ is_none load.owner ∷ is_any load.overdue ∷ [])
 
--- the last row: the sums of both columns
+-- the last row: the sums of both columns, with links to what is counted
 unfoldable pub total : List Load → List Part
 total loads =
     filled LOAD_TOTAL.now (decimal (all_live loads) ∷ decimal (all_overdue loads) ∷ [])

@@ -41,12 +41,7 @@ pub(crate) fn sought_in(typed: &FindForm) -> [Sought<'_>; 10]
     [
         sought_words(typed.words.as_str()),
         sought(typed.replies.as_str(), "replies", "also in texts", ""),
-        sought(
-            typed.queue.as_str(),
-            "queue",
-            "in ",
-            typed.queue.as_str(),
-        ),
+        sought(typed.queue.as_str(), "queue", "in ", typed.queue.as_str()),
         sought(typed.state.as_str(), "state", "", typed.state.as_str()),
         sought(
             typed.status.as_str(),
@@ -62,7 +57,12 @@ pub(crate) fn sought_in(typed: &FindForm) -> [Sought<'_>; 10]
             asker(typed.requestor.as_str()),
         ),
         sought(typed.late.as_str(), "late", "late", ""),
-        sought(typed.from.as_str(), "from", "filed from ", typed.from.as_str()),
+        sought(
+            typed.from.as_str(),
+            "from",
+            "filed from ",
+            typed.from.as_str(),
+        ),
         sought(typed.to.as_str(), "to", "filed to ", typed.to.as_str()),
     ]
 }
@@ -82,12 +82,7 @@ fn sought_words(words: &str) -> Sought<'_>
 }
 
 /// What is sought where something was typed for a field.
-fn sought<'f>(
-    typed: &'f str,
-    field: &'f str,
-    front: &'f str,
-    value: &'f str,
-) -> Sought<'f>
+fn sought<'f>(typed: &'f str, field: &'f str, front: &'f str, value: &'f str) -> Sought<'f>
     ensures { form.plain result
         ≡ form.told typed.entry.now field.entry.now front.entry.now value.entry.now }
 {

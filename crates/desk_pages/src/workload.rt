@@ -54,9 +54,13 @@ fn put_row(out: &mut Vec<u8>, caller: &str, whole: u32, load: &Load) -> Result<(
         load.owner.is_none(),
         load.overdue != 0,
     ];
+    let owner = name_or(&load.owner, "Nobody");
     let values = [
-        Value::Text(name_or(&load.owner, "Nobody")),
+        Value::Text(owner),
+        Value::Text(owner),
+        Value::Text(owner),
         Value::Number(load.live),
+        Value::Text(owner),
         Value::Number(load.overdue),
         Value::Number(whole),
         Value::Number(load.live),

@@ -191,6 +191,8 @@ tr.nobody .owner { font-style: italic; color: var(--soft) }
 .tiles dd a { color: inherit; text-decoration: none }
 .tiles dd a:hover { text-decoration: underline }
 .tiles .late, td.late { color: var(--late); font-weight: 650 }
+.queues td:not(:last-child) > a, .load td > a { color: inherit; text-decoration: none }
+:is(.queues, .load) td > a:hover { text-decoration: underline }
 
 /* What is sought, what narrows it, and which of it a page shows */
 
