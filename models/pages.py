@@ -44,10 +44,15 @@ def is_late(due, at):
     return due is not None and due < at
 
 
+def late_text(due, at):
+    """For how long it has been late, if it is."""
+    return span_text(at - due) if is_late(due, at) else ""
+
+
 def row(it, caller, at):
     one = it.request
     return [one.number, one.subject, sorted(one.roles["requestor"]), one.queue.name, one.status,
-            owner_text(one.owner), time_text(it.due), is_late(it.due, at), moment_text(it.last),
+            owner_text(one.owner), time_text(it.due), late_text(it.due, at), moment_text(it.last),
             whose(one.owner, caller)]
 
 
@@ -90,9 +95,8 @@ def queue(desk, at, caller, name):
 
 
 def late(desk, at, caller):
-    return {"rows": [[it.request.number, it.request.queue.name, owner_text(it.request.owner),
-                      moment_text(it.due), span_text(it.late), whose(it.request.owner, caller)]
-                     for it in desk.ask(at, caller, "overdue", [])]}
+    """The search for it, the most overdue first."""
+    return find(desk, at, caller, ANY._replace(late=True, order="due"))
 
 
 def span_text(minutes):

@@ -93,10 +93,16 @@ def rows(table):
     return [row_of(row) for row in table.one("tbody").all("tr")] if table else []
 
 
+def late_by(cell):
+    """For how long it has been late, if it is."""
+    told = cell.one("strong")
+    return told.text().removesuffix(" late") if told else ""
+
+
 def row_of(row):
     title, (number, queue, status, owner, due, last) = row.one("th"), list(row.all("td"))
     return [int(number.text()), title.one("a").raw(), [it.raw() for it in title.all("small")], queue.text(),
-            status.text(), owner.text(), moment(due), "late" in row.kinds, moment(last), whose(row)]
+            status.text(), owner.text(), moment(due), late_by(due), moment(last), whose(row)]
 
 
 def home(top):
@@ -129,15 +135,6 @@ def find(top):
     count = re.match(r"(?:\d+ to )?(?:\d+ of )?(\d+)", main.one("p", "paging").text())[1]
     later = any(it.marks.get("rel") == "next" for it in main.all("a"))
     return {"count": int(count), "rows": rows(main.one("table", "list")), "later": later}
-
-
-def late(top):
-    return {"rows": [[int(row.one("th").text()), *late_row(list(row.all("td"))), whose(row)]
-                     for row in top.one("table", "late").one("tbody").all("tr")]}
-
-
-def late_row(cells):
-    return [cells[0].text(), cells[1].text(), moment(cells[2]), cells[3].text()]
 
 
 def workload(top):
@@ -223,7 +220,7 @@ def refused(top):
             **({"typed": area.raw().removeprefix("\n")} if area else {})}
 
 
-PAGES = {"home": home, "queue": find, "find": find, "late": late, "workload": workload, "new": new,
+PAGES = {"home": home, "queue": find, "find": find, "late": find, "workload": workload, "new": new,
          "request": request}
 
 

@@ -12,7 +12,6 @@ pub mod Lists
 pub mod Local
 pub mod Moves
 pub mod New
-pub mod Overdue
 pub mod Owner
 pub mod Owners
 pub mod Paging

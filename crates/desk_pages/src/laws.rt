@@ -1,10 +1,9 @@
 //! What holds of every page of the desk: each text stands in text or in a value, and no address is
 //! one. So whatever people write, it is never read as markup, and the markup tells no more than what
 //! is named here: two pages of which that is the same have the same markup.
-ghost use Rattle.std.specs.Prelude.{◌≡◌, ℕ, Bool, List, Option, is_some, length};
+ghost use Rattle.std.specs.Prelude.{◌≡◌, ℕ, Bool, List, Option, is_some};
 ghost use Rattle.settings_core.specs.declared.settings.Settings.{Settings};
 ghost use Rattle.desk_model.specs.declared.answer.Dossier.{Dossier};
-ghost use Rattle.desk_model.specs.declared.answer.LateLine.{LateLine};
 ghost use Rattle.desk_model.specs.declared.answer.Load.{Load};
 ghost use Rattle.desk_model.specs.declared.refusal.Refusal.{Refusal};
 ghost use Rattle.find_core.specs.declared.loads.QueueLoad.{QueueLoad};
@@ -18,7 +17,6 @@ ghost use Rattle.desk_pages.specs.Fault.{fault_page};
 ghost use Rattle.desk_pages.specs.Find.{find_fault_page, find_page, found_told};
 ghost use Rattle.desk_pages.specs.Home.{home_page, home_told};
 ghost use Rattle.desk_pages.specs.New.{new_page};
-ghost use Rattle.desk_pages.specs.Overdue.{overdue_page};
 ghost use Rattle.desk_pages.specs.RefusalPage.{
   ask_refusal_page,
   comment_refusal_page,
@@ -50,13 +48,6 @@ pub fn find_page_law()
         (form typed : FindForm) → chosen_in form ≡ chosen_in typed
         → SameMarkup (find_fault_page caller moment sentence form)
         (find_fault_page other later words typed) }
-{}
-
-/// The page of what is late tells by its markup how many requests there are.
-pub fn overdue_page_law()
-    ensures { (caller other : List ℕ) (moment later : ℕ) (lines others : List LateLine)
-        → length lines ≡ length others
-        → SameMarkup (overdue_page caller moment lines) (overdue_page other later others) }
 {}
 
 /// The page of who has how much to do tells by its markup how many owners there are, and of which

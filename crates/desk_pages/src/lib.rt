@@ -22,7 +22,6 @@ mod local;
 mod markup;
 mod moves;
 mod new;
-mod overdue;
 mod owner;
 mod owners;
 mod paging;
@@ -46,11 +45,10 @@ pub use frame::Place;
 pub use half::{filed_page, replied_page};
 pub use home::home_page;
 pub use laws::{
-    fault_page_law, find_page_law, home_page_law, new_page_law, overdue_page_law, refusal_page_law,
+    fault_page_law, find_page_law, home_page_law, new_page_law, refusal_page_law,
     request_page_law, sign_in_page_law, workload_page_law,
 };
 pub use new::new_page;
-pub use overdue::overdue_page;
 pub use refusal::{
     ask_refusal_page, comment_refusal_page, refusal_page, reply_refusal_page, request_refusal_page,
 };

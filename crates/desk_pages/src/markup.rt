@@ -15,7 +15,6 @@ pub(crate) mod home;
 pub(crate) mod lists;
 pub(crate) mod moves;
 pub(crate) mod new;
-pub(crate) mod overdue;
 pub(crate) mod owner;
 pub(crate) mod paging;
 pub(crate) mod people;

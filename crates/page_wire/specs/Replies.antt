@@ -26,7 +26,6 @@ use Rattle.page_core.specs.Page.{Part, page_bytes}
 use Rattle.desk_pages.specs.Find.{find_fault_page, find_page}
 use Rattle.desk_pages.specs.Home.{home_page}
 use Rattle.desk_pages.specs.New.{new_page}
-use Rattle.desk_pages.specs.Overdue.{overdue_page}
 use Rattle.desk_pages.specs.RefusalPage.{ask_refusal_page, comment_refusal_page, filed_page}
 use Rattle.desk_pages.specs.RefusalPage.{refusal_page, replied_page, reply_refusal_page}
 use Rattle.desk_pages.specs.RefusalPage.{request_refusal_page}
@@ -119,6 +118,10 @@ home_reply settings caller at (Ok own) (Ok asked) (Ok loads) (Err refusal) =
 abbrev pub queue_query : List ℕ → List ℕ
 queue_query queue = codes "queue=" ++ (queue ++ codes "&state=open")
 
+-- the fields of the search for what is late, the most overdue first
+abbrev pub late_query : List ℕ
+late_query = codes "late=yes&order=due"
+
 abbrev pub find_reply : List ℕ → ℕ → List ℕ → Start → FindForm → Order → Result Findings Refusal
     → List ℕ
 find_reply caller at query start form order (Ok found) =
@@ -145,12 +148,6 @@ new_reply settings queue caller at (Ok (answer.Queues rows)) =
     with_page 200 (page_bytes (asks queue caller at (lifecycle_in settings queue rows)))
 new_reply settings queue caller at (Err refusal) = refused caller at refusal
 new_reply settings queue caller at (Ok other) = no_answer caller at
-
-abbrev pub overdue_reply : List ℕ → ℕ → Outcome → List ℕ
-overdue_reply caller at (Ok (answer.Late lines)) =
-    with_page 200 (page_bytes (overdue_page caller at lines))
-overdue_reply caller at (Err refusal) = refused caller at refusal
-overdue_reply caller at (Ok other) = no_answer caller at
 
 abbrev pub workload_reply : List ℕ → ℕ → Outcome → List ℕ
 workload_reply caller at (Ok (answer.Workload loads)) =

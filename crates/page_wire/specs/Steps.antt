@@ -141,7 +141,7 @@ LookSteps settings at caller (page.New queue) =
     Does settings (ask_by at caller command.Queues) (replies.new_reply settings queue caller at)
 LookSteps settings at caller (page.Request id) = LooksAt settings at caller id
 LookSteps settings at caller page.Overdue =
-    Does settings (ask_by at caller command.Overdue) (replies.overdue_reply caller at)
+    FindSteps settings at caller replies.late_query First
 LookSteps settings at caller page.Workload =
     Does settings (ask_by at caller command.Workload) (replies.workload_reply caller at)
 

@@ -16,8 +16,7 @@ ghost use Rattle.page_wire.specs.Steps.{
 };
 
 use crate::pages::{
-    find_fault_reply, find_reply, home_reply, new_reply, overdue_reply, request_reply,
-    workload_reply,
+    find_fault_reply, find_reply, home_reply, new_reply, request_reply, workload_reply,
 };
 use desk_core::{Command, Refusal};
 use find_core::{Findings, Search};
@@ -269,6 +268,10 @@ fn request<S: Backend>(
     reply
 }
 
+/// The fields of the search for what is late, the most overdue first.
+const LATE_QUERY: &str = "late=yes&order=due";
+
+/// The page of what is late: the search for it.
 fn overdue<S: Backend>(
     alloc: Global,
     caller: &str,
@@ -277,10 +280,7 @@ fn overdue<S: Backend>(
 ) -> Result<Vec<u8>, AllocError>
     ensures { Looked S.Store desk.old desk.new moment caller.now Page.Overdue result }
 {
-    let outcome = desk.execute(alloc, moment.get(), caller, &Command::Overdue);
-    let reply = overdue_reply(alloc, caller, moment, &outcome);
-    drop(outcome);
-    reply
+    find(alloc, LATE_QUERY, Start::First, caller, moment, desk)
 }
 
 fn workload<S: Backend>(
