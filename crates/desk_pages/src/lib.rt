@@ -45,8 +45,8 @@ pub use frame::Place;
 pub use half::{filed_page, replied_page};
 pub use home::home_page;
 pub use laws::{
-    fault_page_law, find_page_law, home_page_law, new_page_law, refusal_page_law,
-    request_page_law, sign_in_page_law, workload_page_law,
+    fault_page_law, find_page_law, home_page_law, new_page_law, refusal_page_law, request_page_law,
+    sign_in_page_law, workload_page_law,
 };
 pub use new::new_page;
 pub use refusal::{

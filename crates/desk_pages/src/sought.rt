@@ -1,6 +1,5 @@
 //! What is sought, in words: above what was found, and in the title of its page.
 ghost use Rattle.std.specs.Prelude.{◌≡◌, ◌++◌, map, string_bytes, IfOk, OnOk};
-ghost use Rattle.std.specs.List.{flat_map};
 ghost use Rattle.desk_pages.specs.Sought as form;
 
 use crate::frame::Place;

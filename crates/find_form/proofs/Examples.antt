@@ -1,6 +1,6 @@
 -- Examples of the definitions: places in addresses at the greatest key, fields that no search has,
 -- each fault before those after it, days at both ends of all moments, and pages of 100 and 101 rows.
-use Rattle.std.specs.Prelude.{◌≡◌, refl, ℕ, zero, suc, ◌+◌, true, false, List, [], ◌∷◌, ◌++◌, codes, Option}
+use Rattle.std.specs.Prelude.{◌≡◌, refl, ℕ, zero, suc, ◌+◌, true, false, List, [], ◌∷◌, codes, Option}
 use Rattle.std.specs.Prelude.{Some, None, Ok, Err}
 use Rattle.std.specs.Fmt.{digits}
 use Rattle.browser_core.specs.declared.form.Field.{Field}
@@ -356,26 +356,6 @@ no_field_is_left = refl
 
 name_that_begins_so : is_other (codes "to" ∷ []) (codes "token=1") ≡ true
 name_that_begins_so = refl
-
--- the search with its owner changed
-owner_is_changed :
-    form_of (codes "owner=Me" ++ others_of (codes "owner" ∷ []) address)
-    ≡ Some
-    (record blank {
-      words = codes "paper jam";
-      queue = codes "general";
-      state = codes "open";
-      owner = codes "Me";
-      order = codes "due";
-    })
-owner_is_changed = refl
-
--- its words taken away
-words_are_taken_away :
-    form_of (codes "words=" ++ others_of (codes "words" ∷ codes "replies" ∷ []) address)
-    ≡ Some
-    (record blank { queue = codes "general"; state = codes "open"; order = codes "due" })
-words_are_taken_away = refl
 
 -- Shown.antt
 

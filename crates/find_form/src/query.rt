@@ -36,7 +36,7 @@ fn is_other(piece: &str, names: &[&str]) -> bool
 
 /// Whether there is a value of a byte or more.
 fn has_bytes(value: Option<&[u8]>) -> bool
-    ensures { result ≡ spec.has_bytes (option_map (λ v. v.now) value) }
+    ensures { result ≡ spec.has_bytes (option_map (λ v. v.now) value.entry) }
 {
     match value {
         Some(value) => !value.is_empty(),

@@ -8,9 +8,7 @@ ghost use Rattle.page_wire.specs.Replies as form;
 
 use crate::replies::{refused, with_page};
 use desk_core::{Answer, Dossier, QueueRow, Refusal};
-use desk_pages::{
-    find_fault_page, find_page, home_page, new_page, request_page, workload_page,
-};
+use desk_pages::{find_fault_page, find_page, home_page, new_page, request_page, workload_page};
 use find_core::{Findings, Order, QueueLoad};
 use find_form::{FindFault, FindForm, Start, found_page};
 use hours_core::Minute;
