@@ -1,5 +1,6 @@
 """What a page tells, read from its markup: the facts that models/pages.py tells by the rules, as the same
 plain values."""
+import re
 from html.parser import HTMLParser
 
 VOID = {"meta", "link", "input", "br", "hr", "img"}
