@@ -4,7 +4,11 @@ use load_core::Progress;
 use std::io::IsTerminal;
 use std::time::{Clock, Duration};
 
-/// The lines that were answered, told at the end, and on a terminal once a second.
+/// Of how many lines one is told.
+const EACH: u64 = 1_000;
+
+/// The lines that were answered, told at each 1,000 and at the end, and on a terminal once a second
+/// too.
 #[derive(Drop)]
 pub struct Told<'r> {
     rt: &'r HostRuntime,
@@ -42,14 +46,25 @@ impl<'r> Told<'r> {
     }
 }
 
+impl<'r> Told<'r> {
+    /// Tells it where a second has begun since it was told in time.
+    fn tell_in_time(&mut self) {
+        let second = now(self.rt).saturating_sub(self.begun).as_secs();
+        if second > self.second {
+            self.second = second;
+            self.tell();
+        }
+    }
+}
+
 impl<'r> Progress for Told<'r> {
     fn told(&mut self, line: u64) {
         self.line = line;
         self.answered = self.answered.saturating_add(1);
-        let second = now(self.rt).saturating_sub(self.begun).as_secs();
-        if self.is_watched && second > self.second {
-            self.second = second;
+        if line % EACH == 0 {
             self.tell();
+        } else if self.is_watched {
+            self.tell_in_time();
         }
     }
 }
