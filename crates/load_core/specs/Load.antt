@@ -171,7 +171,8 @@ is_end Write = false
 
 -- lines were to be passed over, and the stream ended before one followed them
 abbrev pub is_beyond : Plan → Loaded → Bool
-is_beyond plan loaded = not (plan.passed == 0) && ((loaded.answered == 0) && is_end loaded.ending)
+is_beyond plan loaded =
+    (not (plan.passed == 0) && (loaded.answered == 0)) && is_end loaded.ending
 
 abbrev pub beyond_text : ℕ → List ℕ
 beyond_text passed = codes "no line after " ++ (decimal passed ++ codes "\n")
