@@ -7,8 +7,8 @@ use std::time::{Clock, Duration};
 /// Of how many lines one is told.
 const EACH: u64 = 1_000;
 
-/// The lines that were answered, told at each 1,000 and at the end, and on a terminal once a second
-/// too.
+/// The last line that was answered, and so stands in the file: told at each 1,000 and at the end, and
+/// on a terminal once a second too.
 #[derive(Drop)]
 pub struct Told<'r> {
     rt: &'r HostRuntime,
@@ -44,9 +44,7 @@ impl<'r> Told<'r> {
         let rate = u128::from(self.answered) * 1_000 / millis;
         let _told = eprintln!(self.rt; "line {line}, {rate} lines a second");
     }
-}
 
-impl<'r> Told<'r> {
     /// Tells it where a second has begun since it was told in time.
     fn tell_in_time(&mut self) {
         let second = now(self.rt).saturating_sub(self.begun).as_secs();
