@@ -14,6 +14,15 @@ use std::io::{BufReader, Read, Write};
 use store_core::{Backend, Store};
 use stream_core::CountedWriter;
 
+/// How lines are loaded.
+#[derive(Clone, Copy)]
+pub struct Way {
+    /// Which are answered, and which answers are printed.
+    pub plan: Plan,
+    /// How many that are done are one transaction.
+    pub commit: u64,
+}
+
 /// The exit status where no line was refused.
 const DONE: u8 = 0;
 
@@ -27,7 +36,7 @@ const FAILED_WRITE: u8 = 4;
 /// desk. Where there was none, its fault is printed, as `open_desk` says.
 pub fn load_over<S: Backend + Drop, W: Write>(
     rt: &HostRuntime,
-    plan: Plan,
+    way: Way,
     settings: &[u8],
     tables: Connection<S>,
     output: &mut CountedWriter<'_, W>,
@@ -40,7 +49,7 @@ pub fn load_over<S: Backend + Drop, W: Write>(
 {
     match open_desk(rt.alloc(), Store::adopt(tables), settings, output) {
         Ok(mut desk) => {
-            let status = load_lines(rt, plan, &mut desk, output);
+            let status = load_lines(rt, way, &mut desk, output);
             let (store, _) = desk.detach();
             (status, Some(store.release()))
         }
@@ -51,7 +60,7 @@ pub fn load_over<S: Backend + Drop, W: Write>(
 /// Loads the lines of the standard input: the exit status.
 fn load_lines<S: Backend, W: Write>(
     rt: &HostRuntime,
-    plan: Plan,
+    way: Way,
     desk: &mut Desk<S>,
     output: &mut CountedWriter<'_, W>,
 ) -> u8
@@ -60,8 +69,8 @@ fn load_lines<S: Backend, W: Write>(
 {
     match BufReader::new(rt.alloc(), rt.reader()) {
         Ok(mut input) => {
-            let loaded = load_from(rt, plan, desk, &mut input, output);
-            status_of(plan, &loaded, output)
+            let loaded = load_from(rt, way, desk, &mut input, output);
+            status_of(way.plan, &loaded, output)
         }
         Err(_) => tell_input_fault(InputFault::Read, output),
     }
@@ -70,7 +79,7 @@ fn load_lines<S: Backend, W: Write>(
 /// Loads the lines of a reader, and tells how far it came.
 fn load_from<S: Backend, R: Read, W: Write>(
     rt: &HostRuntime,
-    plan: Plan,
+    way: Way,
     desk: &mut Desk<S>,
     input: &mut R,
     output: &mut CountedWriter<'_, W>,
@@ -78,9 +87,9 @@ fn load_from<S: Backend, R: Read, W: Write>(
     requires { has_write_failed output.old ≡ false }
     ensures { HaveOneWriter output.new output.old }
 {
-    let mut told = Told::new(rt, plan.passed);
-    let loaded = load(rt.alloc(), desk, plan, input, output, &mut told);
-    told.tell();
+    let mut told = Told::new(rt, way.plan.passed, way.commit);
+    let loaded = load(rt.alloc(), desk, way.plan, input, output, &mut told);
+    told.tell_end();
     loaded
 }
 

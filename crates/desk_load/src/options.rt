@@ -18,15 +18,16 @@ pub struct Asked<'w> {
 /// What is to be done with settings and tables.
 #[derive(Clone, Copy)]
 pub enum Task {
-    /// Lines are loaded: which are answered, and which answers are printed.
-    Load(Plan),
+    /// Lines are loaded: which are answered, which answers are printed, and how many lines that are
+    /// done are one transaction.
+    Load(Plan, u64),
     /// What is wrong first is told.
     Check,
 }
 
 /// What words ask of the program: `--db FILE --settings FILE`, and then `--check`, or maybe `--all`,
-/// `--stop` and `--from N`, in any order. None where they are other words, an option stands there
-/// twice, or N isn't written in digits alone as a number from 1 to the greatest u64.
+/// `--stop`, `--from N` and `--commit N`, in any order. None where they are other words, an option
+/// stands there twice, or N isn't written in digits alone as a number from 1 to the greatest u64.
 pub fn asked_of<'w>(alloc: Global, words: &'w [String]) -> Option<Asked<'w>> {
     let Ok(command) = command_line(alloc) else {
         return None;
@@ -48,36 +49,37 @@ fn asked_by<'w>(matches: &ArgMatches<'w>) -> Option<Asked<'w>> {
 
 /// The task of the matches: a check has no word of a load beside it.
 fn task_by(matches: &ArgMatches<'_>) -> Option<Task> {
-    let from = matches.get_str("from");
+    let (from, commit) = (matches.get_str("from"), matches.get_str("commit"));
     let plan = Plan {
-        passed: passed_by(from)?,
+        passed: count_by(from)?.checked_sub(1)?,
         all: matches.get_flag("all"),
         stop: matches.get_flag("stop"),
     };
     if !matches.get_flag("check") {
-        Some(Task::Load(plan))
-    } else if from.is_none() && !plan.all && !plan.stop {
+        Some(Task::Load(plan, count_by(commit)?))
+    } else if from.is_none() && commit.is_none() && !plan.all && !plan.stop {
         Some(Task::Check)
     } else {
         None
     }
 }
 
-/// How many lines are passed over before the line of a number, if that is one; none of all, where
-/// there is no number.
-fn passed_by(word: Option<&str>) -> Option<u64> {
+/// The number from 1 of a word, if it has one; 1 where there is no word.
+fn count_by(word: Option<&str>) -> Option<u64> {
     match word {
-        Some(word) => number_of(word)?.checked_sub(1),
-        None => Some(0),
+        Some(word) => number_of(word),
+        None => Some(1),
     }
 }
 
-/// The number that a word of digits alone writes, if it is at most the greatest u64.
+/// The number that a word of digits alone writes, if it is from 1 to the greatest u64.
 fn number_of(word: &str) -> Option<u64> {
-    if word.as_bytes().iter().all(|byte| byte.is_ascii_digit()) {
-        word.parse::<u64>().ok()
-    } else {
-        None
+    if !word.as_bytes().iter().all(|byte| byte.is_ascii_digit()) {
+        return None;
+    }
+    match word.parse::<u64>() {
+        Ok(0) | Err(_) => None,
+        Ok(number) => Some(number),
     }
 }
 
@@ -89,6 +91,7 @@ fn command_line<'w>(alloc: Global) -> Result<App<'w>, AllocError> {
     let command = command.arg(option(alloc, "db").required(true))?;
     let command = command.arg(option(alloc, "settings").required(true))?;
     let command = command.arg(option(alloc, "from"))?;
+    let command = command.arg(option(alloc, "commit"))?;
     let command = command.arg(flag(alloc, "all"))?;
     let command = command.arg(flag(alloc, "check"))?;
     command.arg(flag(alloc, "stop"))

@@ -13,9 +13,10 @@ Options:
   --all             Print each answer, and not only those that tell more than ok
   --stop            End at the first refusal
   --from N          Begin with line N
+  --commit N        Write N commands that are done as one transaction: a stop leaves all or none
   --check           Read no line: tell what is wrong first with the settings and the tables
   --help            Print help, alone
   --version         Print the version, alone";
 
 /// The names of its options.
-pub const OPTIONS: [&str; 6] = ["db", "settings", "all", "stop", "from", "check"];
+pub const OPTIONS: [&str; 7] = ["db", "settings", "all", "stop", "from", "commit", "check"];
