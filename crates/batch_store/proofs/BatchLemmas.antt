@@ -1,5 +1,5 @@
 -- What calls of the store below do to what is shown.
-use Rattle.std.proofs.Common.{◌≡◌, ◌≢◌, ◌≤◌, ◌+◌, ◌∙◌, ℕ, Bool, true, false, IsTrue, List, [], ◌∷◌, ◌⊎◌, inl, inr}
+use Rattle.std.proofs.Common.{◌≡◌, ◌≢◌, ◌≤◌, ◌<◌, ◌+◌, ◌^◌, ◌∙◌, ℕ, ℤ, Bool, true, false, IsTrue, List, [], ◌∷◌, ◌⊎◌, inl, inr}
 use Rattle.std.proofs.Common.{Option, Some, None, if◌then◌else◌, ap, refl, subst, sym, arith, true≢false}
 use Rattle.std.specs.Prelude.{IsSome}
 use Rattle.std.proofs.lemmas.Bool.{true_from_ne_false}
@@ -9,7 +9,7 @@ use Rattle.sqlite_trees.proofs.Doubt.{clean_of, never_clean, no_doubt, only_fall
 use Rattle.sqlite_trees.specs.declared.error.StoreError.{StoreError}
 use Rattle.sqlite_trees.specs.declared.store.Store.{Ghosts}
 use Rattle.sqlite_trees.specs.Tree.{Trees, with_tree, no_trees}
-use Rattle.sqlite_trees.specs.View.{Advances, HasCause, IsClean, IsFailure, IsQuiet, KeepsSchema, Moves}
+use Rattle.sqlite_trees.specs.View.{Advances, Finds, HasCause, IsClean, IsFailure, IsQuiet, KeepsSchema, Moves}
 use Rattle.sqlite_trees.specs.View.{OnlyWrites, SetsTree, Tells, View, doubt, with_cursor}
 use Rattle.batch_store.specs.Held.{Holds, IsHeld, is_kept, shown}
 use Rattle.batch_store.specs.Laws.{kept, trees_kept}
@@ -121,7 +121,19 @@ pub record Sound (lost : Bool) (v w : View) : Type 0 where
   pub dirty : w.is_clean ≡ false → w.is_open ≡ false
   pub clean : doubt v.is_clean ≤ doubt w.is_clean
 
-facts_of : (lost : Bool) (v w : View) → Sound lost v w → IsTrue w.is_open → Facts lost v w
+pub sound_by : (lost : Bool) (depth : ℕ) (v w : View)
+    → (lost ≡ false) × ((depth + 1 < 2 ^ 64) × (IsClean v → v.is_broken ≡ false))
+    → (v.is_open ≡ false → IsTrue v.is_broken) → (w.is_clean ≡ false → w.is_open ≡ false)
+    → doubt v.is_clean ≤ doubt w.is_clean → Sound lost v w
+sound_by lost depth v w given shut dirty clean = record {
+  none = given.0;
+  sound = given.1.1;
+  shut = shut;
+  dirty = dirty;
+  clean = clean;
+}
+
+pub facts_of : (lost : Bool) (v w : View) → Sound lost v w → IsTrue w.is_open → Facts lost v w
 facts_of lost v w s stands =
     let now : IsClean w = clean_if_open w s.dirty stands in
     let was : IsClean v = omega (arith, s.clean, now) in
@@ -211,6 +223,25 @@ writes lost v w f e =
     ap (shown lost) e ∙ written_view lost v w.trees w.cursors f.was_kept
     ∙ ap (λ (trees : Trees). record (shown lost v) { trees = trees; cursors = w.cursors })
     (sym (trees_kept lost w f.now_kept))
+
+pub unbroken_shown : (lost : Bool) (v w : View) → Facts lost v w → (shown lost v).is_broken ≡ false
+unbroken_shown lost v w f = rw f.was_kept f.unbroken
+
+pub finds : (lost : Bool) (v w : View) (tree : ℕ) (id : ℤ) (row : Row) (found : Bool) → Facts lost v w
+    → Finds (v.trees tree) id row found → Finds ((shown lost v).trees tree) id row found
+finds lost v w tree id row found f h =
+    subst (λ (trees : Trees). Finds (trees tree) id row found) (sym (trees_kept lost v f.was_kept)) h
+
+-- nothing was called
+pub itself : {S : Type 0} (g : Ghosts S) (s : S)
+    → IsQuiet g.view g.faults g.recovers g.is_shielded s s
+itself g s = record {
+  shield = λ h. h;
+  clean = omega arith;
+  counts = omega arith;
+  closes = λ clean stands. inl stands;
+  outcomes = λ db h. h;
+}
 
 module _ {S : Type 0} (g : Ghosts S) (old new : Batched S g) where
   -- a call that loses all
