@@ -2,24 +2,43 @@
 //! tells what came of one has to carry along all that is said of it.
 
 use crate::asks::Ask;
-use desk_core::{Answer, Refusal};
+use desk_core::{Answer, Command, Refusal};
 use desk_program::{
-    CountedListener, Ended, Memory, OneEnded, open_desk, open_desk_whole, run_one, run_one_whole,
-    run_script_counted, serve_on_counted,
+    CountedListener, Ended, InputFault, Memory, OneEnded, open_desk, open_desk_whole, run_one,
+    run_one_whole, run_script_counted, serve_on, serve_on_counted, take_settings,
 };
 use load_core::{Loaded, Plan, Progress};
-use service_core::{AttachFault, Desk};
-use settings_core::Settings;
+use service_core::{AttachFault, Desk, StreamFault};
+use settings_core::{Settings, SettingsFault};
 use std::alloc::{AllocError, Global};
 use std::io::{Read, Write};
-use std::net::OpenListener;
+use std::net::{OpenListener, TcpListener};
 use std::time::Clock;
-use store_core::{Backend, Store};
+use store_core::{Backend, Store, StoreFault};
 use stream_core::CountedWriter;
 use wire_core::{ServeFault, serve_one};
 
 /// What comes of a command.
 pub(crate) type Outcome = Result<Answer, Refusal>;
+
+pub(crate) fn read_settings(alloc: Global, text: &str) -> Result<Settings, SettingsFault> {
+    Settings::read(alloc, text.as_bytes())
+}
+
+pub(crate) fn take<R: Read>(alloc: Global, reader: &mut R) -> Result<Vec<u8>, InputFault> {
+    take_settings(alloc, reader)
+}
+
+pub(crate) fn make_tables<S: Backend>(
+    alloc: Global,
+    store: &mut Store<S>,
+) -> Result<(), StoreFault> {
+    store.create_schema(alloc)
+}
+
+pub(crate) fn version<S: Backend>(store: &mut Store<S>) -> Result<u32, StoreFault> {
+    store.version()
+}
 
 pub(crate) fn attach<S: Backend>(
     alloc: Global,
@@ -57,6 +76,25 @@ pub(crate) fn execute_all<S: Backend>(
     asks: &[Ask],
 ) -> Result<Vec<Outcome>, AllocError> {
     desk.execute_all(alloc, asks)
+}
+
+pub(crate) fn limit_steps<S: Backend>(desk: &mut Desk<S>, limit: Option<u32>) {
+    desk.set_step_limit(limit);
+}
+
+/// None where it isn't a list that is asked for.
+pub(crate) fn write_list<S: Backend, W: Write>(
+    alloc: Global,
+    desk: &mut Desk<S>,
+    ask: &Ask,
+    writer: &mut W,
+) -> Option<Result<(), StreamFault>> {
+    match &ask.2 {
+        Command::List { .. } | Command::Overdue => {
+            Some(desk.stream(alloc, ask.0, ask.1.as_str(), &ask.2, writer))
+        }
+        _ => None,
+    }
 }
 
 pub(crate) fn serve<R: Read, W: Write, S: Backend>(
@@ -126,6 +164,15 @@ pub(crate) fn load<S: Backend, R: Read, W: Write, P: Progress>(
 ) -> Loaded {
     let mut output = CountedWriter::new(writer);
     load_core::load(alloc, desk, plan, reader, &mut output, progress)
+}
+
+/// Answers one connection, and tells the status.
+pub(crate) fn serve_first<S: Backend>(
+    rt: &HostRuntime,
+    listener: &TcpListener,
+    desk: &mut Desk<S>,
+) -> u8 {
+    serve_on(rt.alloc(), listener, 1, rt, desk)
 }
 
 /// How a server ended, and what its listener counted.

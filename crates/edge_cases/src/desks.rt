@@ -46,7 +46,7 @@ pub(crate) fn attached<S: Backend + Drop, O: Opening<Connection<S>>>(
     tables: &str,
     settings: &str,
 ) -> Result<Desk<S>, Failure> {
-    let settings = Settings::read(alloc, settings.as_bytes())?;
+    let settings = calls::read_settings(alloc, settings)?;
     match made(alloc, opening, tables) {
         Ok(store) => attached_to(alloc, store, settings),
         Err(failure) => {
@@ -82,7 +82,7 @@ fn made<S: Backend + Drop, O: Opening<Connection<S>>>(
 
 fn with_missing<S: Backend + Drop>(alloc: Global, store: Store<S>) -> Result<Store<S>, Failure> {
     let mut store = store;
-    match store.create_schema(alloc) {
+    match calls::make_tables(alloc, &mut store) {
         Ok(()) => Ok(store),
         Err(fault) => {
             drop(store);

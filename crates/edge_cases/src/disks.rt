@@ -1,5 +1,6 @@
 //! What is done on files in memory, and what they are left with.
 
+use crate::calls::make_tables;
 use crate::failure::Failure;
 use crate::tables::Opening;
 use case_disk::{CaseFiles, End, Opened, Start};
@@ -35,7 +36,7 @@ impl Visit for Schema {
             return conn;
         }
         let mut store = Store::adopt(conn);
-        let _ = store.create_schema(alloc);
+        let _ = make_tables(alloc, &mut store);
         store.release()
     }
 }

@@ -8,17 +8,15 @@ use crate::calls::attach;
 use crate::course::Course;
 use crate::desks::{attached, outcome};
 use crate::failure::Failure;
+use crate::reads::{Dated, dated_requests};
 use crate::tables::Opening;
 use case_text::str_of;
-use desk_core::{Command, RequestRow};
+use desk_core::Command;
 use hours_core::{Minute, minute_text};
 use service_core::Desk;
 use sqlite::Connection;
 use std::alloc::Global;
 use store_core::{Backend, StoreFault};
-
-/// A request with its due moment, as the tables have it.
-type Dated = (RequestRow, Option<Minute>);
 
 /// Asks the commands one after the other. After each, the due moments are written that the tables
 /// have, and that this person is shown.
@@ -79,7 +77,7 @@ fn asked_and_read<S: Backend + Drop>(
         return Err(failure);
     }
     let (mut store, settings) = desk.detach();
-    let dated = store.dated_requests(alloc);
+    let dated = dated_requests(alloc, &mut store);
     match attach(alloc, store, settings) {
         Ok(desk) => Ok((desk, dated)),
         Err((_, store)) => {

@@ -1,6 +1,7 @@
 //! Commands under a limit on steps.
 
 use crate::asks::Ask;
+use crate::calls::limit_steps;
 use crate::course::{Course, UNAVAILABLE, rows_left};
 use crate::desks::{attached, outcome};
 use crate::failure::Failure;
@@ -109,9 +110,9 @@ fn is_unavailable<S: Backend>(
     course: &Course<'_>,
     number: usize,
 ) -> Result<bool, Failure> {
-    desk.set_step_limit(Some(limit));
+    limit_steps(desk, Some(limit));
     let text = outcome(alloc, desk, ask);
-    desk.set_step_limit(None);
+    limit_steps(desk, None);
     let text = text?;
     if text.as_str() == UNAVAILABLE || course.answers(number, text.as_str()) {
         Ok(text.as_str() == UNAVAILABLE)

@@ -1,10 +1,9 @@
 //! Messages that go over the loopback, in one thread.
 
-use crate::calls::serve_connections;
+use crate::calls::{serve_connections, serve_first};
 use crate::connections::put_served;
 use crate::failure::Failure;
 use crate::served::{Sent, put_reply};
-use desk_program::serve_on;
 use service_core::Desk;
 use std::io::{Read, Write};
 use std::net::{TcpListener, TcpStream};
@@ -22,7 +21,7 @@ pub(crate) fn answer_by_loopback<S: Backend>(
         let listener = TcpListener::bind(rt, "127.0.0.1:0")?;
         let mut client = TcpStream::connect(rt, listener.local_addr()?)?;
         client.write_all(message.1.as_slice())?;
-        let status = serve_on(rt.alloc(), &listener, 1, rt, desk);
+        let status = serve_first(rt, &listener, desk);
         let mut reply = Vec::new(rt.alloc());
         client.read_to_end(&mut reply)?;
         put_reply(rt.alloc(), out, reply.as_slice(), Ok(()))?;

@@ -20,6 +20,7 @@ mod loads;
 mod loopback;
 mod messages;
 mod opening;
+mod reads;
 mod rows;
 mod runs;
 mod scripts;

@@ -3,13 +3,13 @@
 //! What owns much is given back by `drop`, whose proof stands once; at the end of its scope it
 //! would be taken apart for each function's own proof.
 
-use crate::calls::{open, open_whole};
+use crate::calls::{open, open_whole, take, version};
 use crate::desks::tell_each;
 use crate::failure::Failure;
 use crate::streams::{Faltering, Slow};
 use crate::tables::{self, opened};
 use case_text::{Case, number, str_of};
-use desk_program::{InputFault, take_settings};
+use desk_program::InputFault;
 use service_core::Desk;
 use sqlite::Connection;
 use std::alloc::Global;
@@ -71,7 +71,7 @@ pub(crate) fn run<S: Backend + Drop, O: tables::Opening<Connection<S>>>(
     case: &Case<'_>,
     opening: Opening,
 ) -> Result<(), Failure> {
-    match take(alloc, case.text("settings").as_bytes(), opening.reader_at) {
+    match taken(alloc, case.text("settings").as_bytes(), opening.reader_at) {
         Ok(taken) => {
             writeln!(out, "take: {} bytes", taken.len())?;
             let store = opened(alloc, tables, case.text("tables"))?;
@@ -86,10 +86,10 @@ pub(crate) fn run<S: Backend + Drop, O: tables::Opening<Connection<S>>>(
 }
 
 /// Takes the settings of a reader; of one that may fail, a byte at a time.
-fn take(alloc: Global, settings: &[u8], fails_at: Option<u32>) -> Result<Vec<u8>, InputFault> {
+fn taken(alloc: Global, settings: &[u8], fails_at: Option<u32>) -> Result<Vec<u8>, InputFault> {
     match fails_at {
-        Some(reads) => take_settings(alloc, &mut Slow::failing(settings, reads)),
-        None => take_settings(alloc, &mut { settings }),
+        Some(reads) => take(alloc, &mut Slow::failing(settings, reads)),
+        None => take(alloc, &mut { settings }),
     }
 }
 
@@ -157,7 +157,7 @@ fn tell_given_back<S: Backend>(
     store: &mut Store<S>,
 ) -> Result<(), Failure> {
     tell_unopened(out, taken, status)?;
-    match store.version() {
+    match version(store) {
         Ok(version) => writeln!(out, "given back: version {version}")?,
         Err(fault) => writeln!(out, "given back: {} {}", fault.number(), fault.name())?,
     }

@@ -1,6 +1,7 @@
 //! All that the list readers tell of a store, as one text.
 
 use crate::failure::Failure;
+use crate::reads::{dated_requests, entries_of, links, queues, requests, stays, watchers};
 use std::alloc::Global;
 use std::fmt::Debug;
 use store_core::{Backend, Store, StoreFault};
@@ -9,11 +10,11 @@ use store_core::{Backend, Store, StoreFault};
 /// the watchers, the links, the stays, and the entries of each request.
 pub(crate) fn rows_of<S: Backend>(alloc: Global, store: &mut Store<S>) -> Result<String, Failure> {
     let mut text = String::new(alloc);
-    put(alloc, &mut text, store.queues(alloc))?;
-    put(alloc, &mut text, store.dated_requests(alloc))?;
-    put(alloc, &mut text, store.watchers(alloc))?;
-    put(alloc, &mut text, store.links(alloc))?;
-    put(alloc, &mut text, store.stays(alloc))?;
+    put(alloc, &mut text, queues(alloc, store))?;
+    put(alloc, &mut text, dated_requests(alloc, store))?;
+    put(alloc, &mut text, watchers(alloc, store))?;
+    put(alloc, &mut text, links(alloc, store))?;
+    put(alloc, &mut text, stays(alloc, store))?;
     put_histories(alloc, &mut text, store)?;
     Ok(text)
 }
@@ -24,8 +25,8 @@ fn put_histories<S: Backend>(
     text: &mut String,
     store: &mut Store<S>,
 ) -> Result<(), Failure> {
-    for request in store.requests(alloc)?.as_slice() {
-        put(alloc, text, store.entries_of(alloc, request.id))?;
+    for request in requests(alloc, store)?.as_slice() {
+        put(alloc, text, entries_of(alloc, store, request.id))?;
     }
     Ok(())
 }
@@ -48,12 +49,12 @@ pub(crate) fn put_brief<S: Backend>(
     out: &mut String,
     store: &mut Store<S>,
 ) -> Result<(), Failure> {
-    for queue in store.queues(alloc)?.as_slice() {
+    for queue in queues(alloc, store)?.as_slice() {
         writeln!(out, "queue {}", queue.name.as_str())?;
     }
-    for request in store.requests(alloc)?.as_slice() {
+    for request in requests(alloc, store)?.as_slice() {
         let (id, status) = (request.id, request.status.as_str());
-        let count = store.entries_of(alloc, id)?.len();
+        let count = entries_of(alloc, store, id)?.len();
         writeln!(out, "request {id}: {status}, {count} entries")?;
     }
     Ok(())

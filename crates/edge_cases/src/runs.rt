@@ -3,7 +3,7 @@
 //! What owns much is given back by `drop`, whose proof stands once; at the end of its scope it
 //! would be taken apart for each function's own proof.
 
-use crate::calls::attach;
+use crate::calls::{attach, make_tables, read_settings};
 use crate::course::{Course, UNAVAILABLE, rows_after};
 use crate::desks::outcome;
 use crate::disks::{Visit, tables_of, visit_files};
@@ -13,7 +13,6 @@ use crate::rows::rows_of;
 use crate::tables::Opening;
 use case_disk::{CaseFiles, End, Start};
 use service_core::Desk;
-use settings_core::Settings;
 use sqlite::Connection;
 use std::alloc::{AllocError, Global};
 use store_core::{Backend, Store};
@@ -150,7 +149,7 @@ pub(crate) fn found_on<S: Backend + Drop, O: Opening<Connection<S>>>(
 
 /// Makes the tables that are missing, and tells what they hold.
 fn found_in<S: Backend>(alloc: Global, way: &Way<'_>, store: &mut Store<S>) -> Found {
-    if store.create_schema(alloc).is_err() {
+    if make_tables(alloc, store).is_err() {
         return Found::Refused;
     }
     match rows_of(alloc, store) {
@@ -167,7 +166,7 @@ fn follow<S: Backend>(
     from: usize,
 ) -> (Store<S>, Option<usize>) {
     let course = way.course;
-    let Ok(settings) = Settings::read(alloc, course.before.settings.as_bytes()) else {
+    let Ok(settings) = read_settings(alloc, course.before.settings) else {
         return (store, None);
     };
     match attach(alloc, store, settings) {

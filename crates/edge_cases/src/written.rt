@@ -1,12 +1,12 @@
 //! A list that is written row by row, to a writer that falters at each of its calls in turn.
 
 use crate::asks::{Ask, ask_of};
+use crate::calls::write_list;
 use crate::course::Course;
 use crate::desks::{attached, outcome};
 use crate::failure::Failure;
 use crate::streams::Faltering;
 use crate::tables::Opening;
-use desk_core::Command;
 use service_core::{Desk, StreamFault};
 use sqlite::Connection;
 use std::alloc::Global;
@@ -91,17 +91,12 @@ fn try_once<S: Backend>(
     fails: bool,
 ) -> Tried {
     let mut writer = Faltering::after(alloc, count, fails);
-    let ended = match &ask.2 {
-        Command::List { .. } | Command::Overdue => {
-            desk.stream(alloc, ask.0, ask.1.as_str(), &ask.2, &mut writer)
-        }
-        _ => return Tried::Wrong,
-    };
+    let ended = write_list(alloc, desk, ask, &mut writer);
     let taken = writer.taken.as_slice();
     let is_cut = taken.len() == count as usize && whole.starts_with(taken);
     match ended {
-        Ok(()) if taken == whole => Tried::Whole,
-        Err(StreamFault::Write) if is_cut => Tried::Cut,
+        Some(Ok(())) if taken == whole => Tried::Whole,
+        Some(Err(StreamFault::Write)) if is_cut => Tried::Cut,
         _ => Tried::Wrong,
     }
 }
