@@ -37,6 +37,7 @@ use crate::failure::Failure;
 use case_disk::{Opening, OverTables, over_disks};
 use case_text::{Answers, Case, try_cases};
 use sqlite::Connection;
+use std::alloc::Global;
 use std::process::ExitCode;
 use store_core::Backend;
 
@@ -105,9 +106,21 @@ fn run_case<S: Backend + Drop, O: Opening<Connection<S>>>(
     match case.kind(&PARTS) {
         "messages" => messages::run_case(rt, out, opening, case),
         "commands" => commands::run_case(rt, out, opening, case),
-        "script" => scripts::run_case(alloc, out, case),
         "list" => trials::run_case(alloc, out, opening, case),
         "loads" => loads::run_case(alloc, out, opening, case),
+        kind => run_without_tables(alloc, out, case, kind),
+    }
+}
+
+/// Adds what comes of a case that has no tables of its own.
+fn run_without_tables(
+    alloc: Global,
+    out: &mut String,
+    case: &Case<'_>,
+    kind: &str,
+) -> Result<(), Failure> {
+    match kind {
+        "script" => scripts::run_case(alloc, out, case),
         "words" => words::run_case(alloc, out, case.text("words")),
         _ => Err(Failure::BadLine),
     }

@@ -121,6 +121,13 @@ fn manner_of(line: &str) -> Result<Manner, Failure> {
         "reader_fails" => Ok(Manner::streams(Some(count), u32::MAX, true)),
         "writer_fails" => Ok(Manner::streams(None, count, true)),
         "writer_stops" => Ok(Manner::streams(None, count, false)),
+        _ => other_manner(kind, count),
+    }
+}
+
+/// One in which no stream fails.
+fn other_manner(kind: &str, count: u32) -> Result<Manner, Failure> {
+    match kind {
         "loopback" => Ok(Manner::Loopback),
         "leaves" => Ok(Manner::Leaves(count)),
         "endless" => Ok(Manner::Endless),

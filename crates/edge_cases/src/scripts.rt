@@ -35,10 +35,24 @@ impl Answering for Script<'_> {
             "reader" => slow(alloc, out, line, Slow::over(script)),
             "reader_fails" => slow(alloc, out, line, Slow::failing(script, words.count()?)),
             "endless" => slow(alloc, out, line, Slow::endless(b"")),
-            "writer_fails" => faltering(alloc, out, line, script, words.count()?, true),
-            "writer_stops" => faltering(alloc, out, line, script, words.count()?, false),
-            _ => Err(Failure::BadLine),
+            kind => by_writer(alloc, out, line, script, kind, words.count()?),
         }
+    }
+}
+
+/// Runs the script over the writer that a word names.
+fn by_writer(
+    alloc: Global,
+    out: &mut String,
+    line: &str,
+    script: &[u8],
+    kind: &str,
+    falters_at: u32,
+) -> Result<(), Failure> {
+    match kind {
+        "writer_fails" => faltering(alloc, out, line, script, falters_at, true),
+        "writer_stops" => faltering(alloc, out, line, script, falters_at, false),
+        _ => Err(Failure::BadLine),
     }
 }
 
