@@ -288,14 +288,14 @@ def bodies():
 def methods():
     """Methods that a place doesn't take, and places that only take a form."""
     with serving("methods") as visitor:
-        for line, allow in (("PUT /", "GET"), ("POST /", "GET"), ("DELETE /desk/overdue", "GET"),
-                            ("PATCH /desk/go", "GET, POST"), ("POST /style.css", "GET"),
-                            (f"PUT /desk/requests/{TALK}/take", "GET, POST")):
+        for line, allow in (("PUT /", "GET, HEAD"), ("POST /", "GET, HEAD"), ("DELETE /desk/overdue", "GET, HEAD"),
+                            ("PATCH /desk/go", "GET, HEAD, POST"), ("POST /style.css", "GET, HEAD"),
+                            (f"PUT /desk/requests/{TALK}/take", "GET, HEAD, POST")):
             reply = visitor.send(line, visitor.lines_of("bob"), "")
             page(line, reply, 405)
             expect(f"{line}: what is allowed", reply.head("allow"), allow)
         reply = visitor.send("HEAD /", visitor.lines_of("bob"))
-        expect("HEAD", (reply.code, reply.body), (405, b""))
+        expect("HEAD", (reply.code, reply.body), (200, b""))
         for place, to in ((f"/desk/requests/{TALK}/reply", f"/desk/requests/{TALK}"),
                           ("/desk/queues", "/"), ("/desk/go", "/"), ("/sign-out", "/")):
             reply = visitor.get(place)
