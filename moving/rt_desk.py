@@ -3,6 +3,7 @@ folder: nothing is installed. apt has to reach Debian's archive the first time."
 import glob
 import json
 import os
+import re
 import subprocess
 
 HERE = os.path.dirname(os.path.abspath(__file__))
@@ -82,9 +83,7 @@ class Packages:
         """Puts the folder before each path that RT's file names."""
         with open(path, encoding="utf-8") as file:
             text = file.read()
-        for quote in "'\"":
-            for top in ("usr", "etc", "var"):
-                text = text.replace(f"{quote}/{top}/", f"{quote}{self.root}/{top}/")
+        text = re.sub("""(['"])(?=/(?:usr|etc|var)/)""", lambda found: found[1] + self.root, text)
         with open(path, "w", encoding="utf-8") as file:
             file.write(text)
 

@@ -1,12 +1,13 @@
 //! A load over tables.
 ghost use Rattle.std.specs.Prelude.{◌≡◌, false, None};
 ghost use Rattle.stream_core.specs.Seen.{HaveOneWriter, has_write_failed};
-ghost use Rattle.desk_program.specs.Opening.{IsNotOpened};
-ghost use Rattle.desk_load.specs.Ending.{EndsLoad};
+ghost use Rattle.desk_program.specs.Opening.{EndsWith, IsNotOpened};
+ghost use Rattle.load_core.specs.Load.{beyond_text};
+ghost use Rattle.desk_load.specs.Ending.{EndsBy, EndsLoad};
 
 use crate::progress::Told;
 use desk_program::{InputFault, open_desk, tell_input_fault};
-use load_core::{Ending, Loaded, Plan, load};
+use load_core::{Ending, Loaded, Plan, is_beyond, load, put_beyond};
 use service_core::Desk;
 use sqlite::Connection;
 use std::io::{BufReader, Read, Write};
@@ -60,7 +61,7 @@ fn load_lines<S: Backend, W: Write>(
     match BufReader::new(rt.alloc(), rt.reader()) {
         Ok(mut input) => {
             let loaded = load_from(rt, plan, desk, &mut input, output);
-            status_of(&loaded, output)
+            status_of(plan, &loaded, output)
         }
         Err(_) => tell_input_fault(InputFault::Read, output),
     }
@@ -83,10 +84,35 @@ fn load_from<S: Backend, R: Read, W: Write>(
     loaded
 }
 
-/// The exit status of a load. A failed read is told.
-fn status_of<W: Write>(loaded: &Loaded, output: &mut CountedWriter<'_, W>) -> u8
+/// The exit status of a load. A failed read is told, and that it was to begin beyond the end.
+fn status_of<W: Write>(plan: Plan, loaded: &Loaded, output: &mut CountedWriter<'_, W>) -> u8
     ensures same_writer { HaveOneWriter output.new output.old }
-    ensures told { EndsLoad W.contents loaded.now.ending loaded.now.refused output.old output.new
+    ensures told { EndsLoad W.contents plan loaded.now output.old output.new result }
+{
+    if is_beyond(plan, loaded) {
+        tell_beyond(plan, output)
+    } else {
+        status_by(loaded, output)
+    }
+}
+
+/// Tells that there is no line with which the load was to begin.
+fn tell_beyond<W: Write>(plan: Plan, output: &mut CountedWriter<'_, W>) -> u8
+    ensures same_writer { HaveOneWriter output.new output.old }
+    ensures told { EndsWith W.contents (beyond_text plan.passed) 1 output.old output.new result }
+{
+    put_beyond(plan, output);
+    if output.failed() {
+        FAILED_WRITE
+    } else {
+        REFUSED
+    }
+}
+
+/// The exit status of a load that began.
+fn status_by<W: Write>(loaded: &Loaded, output: &mut CountedWriter<'_, W>) -> u8
+    ensures same_writer { HaveOneWriter output.new output.old }
+    ensures told { EndsBy W.contents loaded.now.ending loaded.now.refused output.old output.new
         result }
 {
     match loaded.ending {

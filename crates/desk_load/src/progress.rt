@@ -4,7 +4,11 @@ use load_core::Progress;
 use std::io::IsTerminal;
 use std::time::{Clock, Duration};
 
-/// The lines that were answered, told at the end, and on a terminal once a second.
+/// Of how many lines one is told.
+const EACH: u64 = 1_000;
+
+/// The last line that was answered, and so stands in the file: told at each 1,000 and at the end, and
+/// on a terminal once a second too.
 #[derive(Drop)]
 pub struct Told<'r> {
     rt: &'r HostRuntime,
@@ -40,16 +44,25 @@ impl<'r> Told<'r> {
         let rate = u128::from(self.answered) * 1_000 / millis;
         let _told = eprintln!(self.rt; "line {line}, {rate} lines a second");
     }
+
+    /// Tells it where a second has begun since it was told in time.
+    fn tell_in_time(&mut self) {
+        let second = now(self.rt).saturating_sub(self.begun).as_secs();
+        if second > self.second {
+            self.second = second;
+            self.tell();
+        }
+    }
 }
 
 impl<'r> Progress for Told<'r> {
     fn told(&mut self, line: u64) {
         self.line = line;
         self.answered = self.answered.saturating_add(1);
-        let second = now(self.rt).saturating_sub(self.begun).as_secs();
-        if self.is_watched && second > self.second {
-            self.second = second;
+        if line % EACH == 0 {
             self.tell();
+        } else if self.is_watched {
+            self.tell_in_time();
         }
     }
 }

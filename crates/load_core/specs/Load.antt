@@ -1,5 +1,5 @@
 -- A load: lines off a stream, each answered over the tables that the one before left.
-use Rattle.std.specs.Prelude.{◌≡◌, ◌+◌, ◌++◌, ◌∷◌, ◌&&◌, ◌||◌, not, ℕ, zero, suc, Bool, true, false}
+use Rattle.std.specs.Prelude.{◌≡◌, ◌+◌, ◌++◌, ◌∷◌, ◌&&◌, ◌||◌, ◌==◌, not, ℕ, zero, suc, Bool, true, false}
 use Rattle.std.specs.Prelude.{List, [], Option, Some, None, if◌then◌else◌, codes, decimal, length, nat_le}
 use Rattle.std.specs.Prelude.{◌≢◌, ◌≤◌, ◌<◌, take}
 use Rattle.std.specs.Io.KnownBytes.{Consumes, IsAtEnd}
@@ -160,6 +160,22 @@ pub record IsLoaded {S : Type 0} (g : Ghosts S) (settings : Settings) (plan : Pl
   pub within : passed ≤ plan.passed
   pub run : Runs g settings plan (begins_at start old before) left new after loaded
   pub full : passed ≢ plan.passed → loaded.answered ≡ 0
+
+-- ---- a load that was to begin beyond the end
+
+abbrev pub is_end : Ending → Bool
+is_end Input = true
+is_end Refused = false
+is_end Read = false
+is_end Write = false
+
+-- lines were to be passed over, and the stream ended before one followed them
+abbrev pub is_beyond : Plan → Loaded → Bool
+is_beyond plan loaded =
+    (not (plan.passed == 0) && (loaded.answered == 0)) && is_end loaded.ending
+
+abbrev pub beyond_text : ℕ → List ℕ
+beyond_text passed = codes "no line after " ++ (decimal passed ++ codes "\n")
 
 -- ---- as the program stands
 

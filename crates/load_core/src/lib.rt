@@ -10,7 +10,9 @@
 #![tactic(auto)]
 
 mod answer;
+mod beyond;
 mod line;
 mod run;
 
+pub use beyond::{is_beyond, put_beyond};
 pub use run::{Ending, Loaded, Plan, Progress, load};
