@@ -20,6 +20,7 @@ ROOM = 3 << 30
 def kill(trial, asks, after):
     """A kill -9 while commands are on their way: each is done or not done, and done where it was answered."""
     trial.up()
+    trial.sign_in(asks)
     sent = trial.pool.submit(lambda: [it for it, _ in trial.at_once(asks)])
     time.sleep(after)
     trial.server.kill(signal.SIGKILL)
@@ -64,8 +65,7 @@ def full(trial, asks, pages):
     """The disk has so many pages left: each command is done, or told to be not done; and once there is room
     the desk goes on."""
     trial.up()
-    for by in sorted({it.by for it in asks if it.way == "page"}):
-        trial.browser.sign_in(by)
+    trial.sign_in(asks)
     room = os.statvfs(trial.programs.room)
     resize(trial, (room.f_blocks - room.f_bfree + pages) * room.f_frsize)
     try:
@@ -119,7 +119,7 @@ def alike(trial, second, at, person):
     asks = [Ask(at, "http", person, name) for name in ("queues", "overdue", "workload")]
     asks += [Ask(at, "http", person, "ls", [name]) for name in trial.desk.by_name]
     asks += [Ask(at, "http", person, name, [number]) for name in ("show", "history")]
-    messages = type(trial.messages)(second.port, {person: token})
+    messages = type(trial.messages)(second.port, {person: token}, trial.programs.clock)
     for ask in asks:
         trial.need(f"of the second desk: {ask}", messages.answer(ask), expected.by_message(trial.desk, ask))
     trial.figures.compared["answers of a second desk"] += len(asks)

@@ -67,6 +67,7 @@ class Plan:
             put(self.kill)
             put(self.together)
             put(self.strange)
+            put(self.strange)
         return sorted(some, key=lambda it: it[0])
 
     def night(self, number, day):

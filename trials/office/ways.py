@@ -2,14 +2,12 @@
 where no whole reply came."""
 import contextlib
 import http.client
-import re
 import socket
 import threading
 import time
-import urllib.parse
 
-from office import reader
-from office.asks import PAGES, form, message, place, spelled
+from office.asks import message, spelled
+from office.differs import Differs
 
 SECONDS = 60
 # how long the last reply of a thread took, without the reading of a page by this program
@@ -47,17 +45,25 @@ def asked(port, method, path, head, body=None):
         SPENT.seconds = time.monotonic() - began
 
 
+def dated(reply, clock):
+    """The same, after its line `Date` was looked at: it tells the moment of the office."""
+    moment = time.strftime("%a, %d %b %Y %H:%M:30 GMT", time.gmtime(clock.now * 60))
+    if reply is not None and reply.head.get_all("Date") != [moment]:
+        raise Differs(f"Date: {reply.head.get_all('Date')} in place of {moment}")
+    return reply
+
+
 class Messages:
     """The interface over HTTP, by a token."""
 
-    def __init__(self, port, tokens):
-        self.port, self.tokens = port, tokens
+    def __init__(self, port, tokens, clock):
+        self.port, self.tokens, self.clock = port, tokens, clock
 
     def answer(self, ask):
         method, path, body = message(ask)
         reply = asked(self.port, method, path, [f"Desk-Token: {self.tokens[ask.by]}"],
                       body.encode() if body is not None else None)
-        return reply and (reply.code, reply.text())
+        return dated(reply, self.clock) and (reply.code, reply.text())
 
 
 class Shell:
@@ -74,68 +80,3 @@ class Shell:
         if status == 4 and told in ("no server\n", "no whole reply\n") or status == 4 and not text:
             return None
         return text, status
-
-
-class Browser:
-    """The pages, with a cookie for each person, as a browser keeps it."""
-
-    def __init__(self, port, tokens):
-        self.port, self.tokens, self.cookies, self.last = port, tokens, {}, None
-
-    def get(self, by, path):
-        """A page, after signing in where that is asked."""
-        for _ in range(2):
-            if by not in self.cookies and not self.sign_in(by):
-                return None
-            reply = asked(self.port, "GET", path, [f"Cookie: {self.cookies[by]}"])
-            if reply is None or reply.code != 403 or not reader.is_sign_in(reader.read(reply.text())):
-                return reply
-            del self.cookies[by]
-        return reply
-
-    def sign_in(self, by):
-        fields = {"next": "/", "token": self.tokens[by]}
-        reply = self.send("/sign-in", fields, [])
-        if reply is None:
-            return False
-        pairs = [it.split(";")[0] for it in reply.head.get_all("Set-Cookie", [])]
-        if reply.code != 303 or not pairs:
-            return False
-        self.cookies[by] = "; ".join(pairs)
-        return True
-
-    def send(self, path, fields, head):
-        """A form, with line ends as browsers send them."""
-        text = {name: re.sub("\r\n|\r|\n", "\r\n", it) if "\r" not in it else it for name, it in fields.items()}
-        body = urllib.parse.urlencode(text).encode()
-        host = f"http://127.0.0.1:{self.port}"
-        return asked(self.port, "POST", path, ["Content-Type: application/x-www-form-urlencoded", f"Origin: {host}",
-                                               "Sec-Fetch-Site: same-origin", *head], body)
-
-    def page(self, by, name, path):
-        """The code and the facts of a page."""
-        self.last = reply = self.get(by, path)
-        return reply and (reply.code, reader.facts_of(name, reply.code, reply.text()))
-
-    def reading(self, ask):
-        path = place(ask)
-        if ask.name == "find":
-            path += "?" + urllib.parse.urlencode(ask.words[0])
-        return self.page(ask.by, PAGES[ask.name], path)
-
-    def post(self, ask, hidden=None):
-        """What comes of a form: the code, and the place to which it leads or the facts of its page."""
-        path, fields = form(ask)
-        if ask.by not in self.cookies and not self.sign_in(ask.by):
-            return None
-        reply = self.send(path, {**(hidden or {}), **fields}, [f"Cookie: {self.cookies[ask.by]}"])
-        if reply is None:
-            return None
-        if reply.code == 303:
-            return 303, reply.head["Location"].partition("#")[0]
-        return reply.code, reader.facts_of("refused", reply.code, reply.text())
-
-
-def hidden_of(reply, path):
-    """The hidden fields of the form with that action on a page, if it stands there."""
-    return reader.forms(reader.read(reply.text())).get(path, {}) if reply else {}
