@@ -22,7 +22,7 @@ def kill(trial, asks, after):
     trial.up()
     trial.sign_in(asks)
     sent = trial.pool.submit(lambda: [it for it, _ in trial.at_once(asks)])
-    time.sleep(after)
+    time.sleep(after * trial.figures.slowness())
     trial.server.kill(signal.SIGKILL)
     answers = sent.result()
     trial.figures.faults["kills"] += 1
@@ -160,7 +160,7 @@ def killed_load(trial, asks, lines):
     try:
         run.stdin.write(lines)
         run.stdin.flush()
-        time.sleep(0.01 + 0.001 * (len(lines) % 60))
+        time.sleep((0.01 + 0.001 * (len(lines) % 60)) * trial.figures.slowness())
         run.send_signal(signal.SIGKILL)
         run.stdin.close()
     except BrokenPipeError:

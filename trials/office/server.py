@@ -93,7 +93,7 @@ class Server:
         self.child.send_signal(signal)
         return self.gone()
 
-    def gone(self, seconds=30):
+    def gone(self, seconds=PATIENCE):
         """How it ended: its status, what it printed since it listened, and its standard error."""
         try:
             status = self.child.wait(timeout=seconds)
