@@ -12,7 +12,7 @@ import sessions
 from office import reader
 from office.asks import PAGES, form, place
 from office.differs import Differs
-from office.ways import asked, dated
+from office.ways import asked, dated, until_answered
 
 # what people do: tick the box, close the browser in the evening, sign out then, or leave it open
 TICKS, CLOSES, SIGNS_OUT, LEAVES = range(4)
@@ -68,7 +68,8 @@ class Browser:
         """Signs in on the page that came in place of another one."""
         hidden = self.is_asked_to_sign_in(by, path, page)
         keep = habit(by) == TICKS
-        reply = self.send("/sign-in", {**hidden, "token": self.tokens[by], **({"keep": "yes"} if keep else {})}, [])
+        fields = {**hidden, "token": self.tokens[by], **({"keep": "yes"} if keep else {})}
+        reply = until_answered(self.send, "/sign-in", fields, [])
         if reply is None:
             return False
         now = self.clock.now
@@ -101,7 +102,7 @@ class Browser:
         """Some close their browser, and others sign out."""
         for by, kept in list(self.kept.items()):
             if habit(by) == SIGNS_OUT and self.stands(by):
-                reply = self.send("/sign-out", {}, [f"Cookie: desk={kept.value}"])
+                reply = until_answered(self.send, "/sign-out", {}, [f"Cookie: desk={kept.value}"])
                 given = reply and (reply.code, reply.head.get_all("Set-Cookie"), reply.head["Location"])
                 wanted = 303, ["desk=; Path=/; Max-Age=0; HttpOnly; SameSite=Lax"], "/sign-in"
                 if given != wanted:
@@ -115,7 +116,8 @@ class Browser:
     def plainly(self, path, by):
         """What comes of a look by the cookie that there is."""
         cookie = [f"Cookie: desk={self.kept[by].value}"] if by in self.kept else []
-        return dated(asked(self.port, "GET", path, ["Sec-Fetch-Site: same-origin", *cookie]), self.clock)
+        reply = until_answered(asked, self.port, "GET", path, ["Sec-Fetch-Site: same-origin", *cookie])
+        return dated(reply, self.clock)
 
     def get(self, by, path):
         """A page, after signing in where that is asked."""

@@ -5,13 +5,14 @@ import signal
 import subprocess
 import time
 
-from client import ask as send, message, parts_of
+from client import message, parts_of
 
 from office import expected, kept
 from office.asks import Ask, line
 from office.figures import outcome
 from office.server import Server
 from office.settle import Saved, Settled, is_unavailable, number_filed, wanted
+from office.ways import reply_to
 
 PAGE = 4096
 ROOM = 3 << 30
@@ -86,7 +87,7 @@ def full(trial, asks, pages):
 
 def copied(trial):
     """Where a copy stands that the server made."""
-    reply = send(trial.server.port, message("POST /copy", token=trial.tokens[trial.admin()]))
+    reply = reply_to(trial.server.port, message("POST /copy", token=trial.tokens[trial.admin()]))
     trial.need("POST /copy", parts_of(reply)[:2], (200, "copied\n"))
     return trial.programs.path("copy.db")
 

@@ -14,7 +14,7 @@ from office.figures import Figures, outcome
 from office.known import Desk, Known
 from office.server import Programs, Server
 from office.settle import in_some_order, number_filed, wanted
-from office.ways import SPENT, Messages, Shell
+from office.ways import CUT, SLOW, SPENT, Messages, Shell
 
 # how many clients a burst has at once
 SIDE_BY_SIDE = 500
@@ -52,6 +52,7 @@ class Trial:
             self.server.kill(9)
         self.pool.shutdown()
         self.figures.sessions.update(self.browser.counts)
+        self.figures.faults["cut off since all was slow"] += len(CUT)
 
     def need(self, what, given, wanted_of):
         if given != wanted_of:
@@ -107,6 +108,10 @@ class Trial:
         hidden = self.form_page(ask) if ask.way == "page" and not ask.reads else None
         answer = self.answer(ask, hidden)
         seconds = SPENT.seconds
+        if answer is None and seconds >= SLOW:
+            CUT.append(ask)
+            faults.settle(self, [ask], [None], "cut off")
+            return
         told = self.told(ask)
         self.need(f"{ask}", answer, told)
         self.figures.answered(ask, outcome(answer), seconds)
@@ -168,13 +173,16 @@ class Trial:
         self.up()
         asks = [numbered(Ask.of(it), self.numbers) for it in asks]
         self.sign_in(asks)
-        answers = [answer for answer, _ in self.at_once(asks)]
-        first = in_some_order(self.desk, asks, answers)
-        if first is not None:
-            self.need(f"at once: {asks}", answers, first)
+        pairs = self.at_once(asks)
+        with kept.opened(self.programs.path("desk.db")) as tables:
+            there = kept.rows_at(tables, asks[0].request())
+        first = in_some_order(self.desk, asks, [answer for answer, _ in pairs], there)
+        if first is not None or any(answer is None and seconds < SLOW for answer, seconds in pairs):
+            self.need(f"at once: {asks}, with {there}", [answer for answer, _ in pairs], first)
         self.figures.faults["two at once"] += 1
-        for ask, answer in zip(asks, answers):
-            self.figures.answers[ask.way, ask.name, outcome(answer)] += 1
+        for ask, (answer, _) in zip(asks, pairs):
+            if answer is not None:
+                self.figures.answers[ask.way, ask.name, outcome(answer)] += 1
 
     def do_burst(self, at, asks):
         """All of it is answered, and none of it touches what another asks. The desk may cut off who hasn't sent

@@ -3,7 +3,8 @@ what its text begins with."""
 from typing import NamedTuple
 
 import sessions
-from client import ask as send
+
+from office.ways import reply_to
 
 KINDS = []
 
@@ -185,7 +186,7 @@ def later_end(who):
 def try_one(port, who, number):
     """What is wrong with the answer to one of them, or None."""
     make, code, begins = KINDS[number % len(KINDS)]
-    reply = send(port, make(who))
+    reply = reply_to(port, make(who))
     first, _, text = reply.partition(b"\r\n\r\n")
     if first[9:12] == str(code).encode() and text.startswith(begins.encode()):
         return None

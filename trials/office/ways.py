@@ -1,17 +1,26 @@
 """The ways in: how each ask goes to the programs, and what comes back as plain values. A way answers None
-where no whole reply came."""
+where no whole reply came. A desk cuts off who hasn't sent a whole message, or read its reply, in half a minute:
+on a slow machine that is no fault, so what changes nothing is asked again then, and a command is told from the
+tables."""
 import contextlib
 import http.client
 import socket
 import threading
 import time
 
+from client import ask as send
+
 from office.asks import message, spelled
 from office.differs import Differs
 
-SECONDS = 60
+# after how long a client gives up; a desk does long before
+SECONDS = 900
+# who waited so long may have been cut off by the desk
+SLOW = 25
 # how long the last reply of a thread took, without the reading of a page by this program
 SPENT = threading.local()
+# the clients that were cut off since all was slow
+CUT = []
 
 
 class Reply:
@@ -45,6 +54,26 @@ def asked(port, method, path, head, body=None):
         SPENT.seconds = time.monotonic() - began
 
 
+def until_answered(ask, *words):
+    """The reply to what changes nothing: again, as long as it takes the half minute after which a desk cuts off."""
+    for _ in range(60):
+        reply = ask(*words)
+        if reply or SPENT.seconds < SLOW:
+            break
+        CUT.append(words)
+    return reply
+
+
+def reply_to(port, sent):
+    """The bytes of the reply to bytes that change nothing."""
+    def once():
+        began = time.monotonic()
+        reply = send(port, sent, seconds=SECONDS)
+        SPENT.seconds = time.monotonic() - began
+        return reply
+    return until_answered(once)
+
+
 def dated(reply, clock):
     """The same, after its line `Date` was looked at: it tells the moment of the office."""
     moment = time.strftime("%a, %d %b %Y %H:%M:30 GMT", time.gmtime(clock.now * 60))
@@ -61,8 +90,8 @@ class Messages:
 
     def answer(self, ask):
         method, path, body = message(ask)
-        reply = asked(self.port, method, path, [f"Desk-Token: {self.tokens[ask.by]}"],
-                      body.encode() if body is not None else None)
+        words = self.port, method, path, [f"Desk-Token: {self.tokens[ask.by]}"]
+        reply = asked(*words, body.encode()) if body is not None else until_answered(asked, *words)
         return dated(reply, self.clock) and (reply.code, reply.text())
 
 
@@ -73,6 +102,9 @@ class Shell:
         self.programs, self.port = programs, port
 
     def answer(self, ask):
+        return until_answered(self.once, ask) if ask.reads else self.once(ask)
+
+    def once(self, ask):
         words = ["--server", f"127.0.0.1:{self.port}", "--token-file", self.programs.path(f"{ask.by}.token")]
         began = time.monotonic()
         text, status, told = self.programs.run("desk_ask", [*words, *spelled(ask)])
