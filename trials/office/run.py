@@ -26,6 +26,7 @@ class Trial:
         self.server = Server(self.programs)
         self.desk, self.tokens, self.numbers = None, {}, {}
         self.figures, self.crowd, self.wants_crowd = Figures(), None, crowd
+        CUT.clear()
         self.browser, self.messages, self.shell = Browser(self.programs.clock), None, None
         self.pool = ThreadPoolExecutor(SIDE_BY_SIDE)
 

@@ -11,7 +11,7 @@ from client import free_port, message, said
 from office.setup import minute
 from office.ways import reply_to
 
-FAKETIME = "/usr/lib/x86_64-linux-gnu/faketime/libfaketime.so.1"
+FAKETIME = "/usr/lib/x86_64-linux-gnu/faketime/libfaketimeMT.so.1"
 # the seconds after which a program counts as one that doesn't end, on a machine that does much else
 PATIENCE = 1800
 

@@ -10,10 +10,11 @@ UNAVAILABLE = "refused 16 Unavailable"
 
 
 class Saved:
-    """How these requests and the links are, to go back to."""
+    """How these requests, the links and the queues are, to go back to."""
 
     def __init__(self, desk, numbers):
         self.desk, self.count, self.links = desk, len(desk.requests), set(desk.links)
+        self.queues = dict(desk.by_name)
         there = [it for it in numbers if it is not None and 1 <= it <= self.count]
         self.of = {it: copied(desk.requests[it - 1].__dict__) for it in there}
 
@@ -21,7 +22,7 @@ class Saved:
         added = range(self.count + 1, len(self.desk.requests) + 1)
         self.desk.forget([*self.of, *added])
         del self.desk.requests[self.count:]
-        self.desk.links = set(self.links)
+        self.desk.links, self.desk.by_name = set(self.links), dict(self.queues)
         for number, kept_of in self.of.items():
             self.desk.requests[number - 1].__dict__.update(copied(kept_of))
 
@@ -115,7 +116,9 @@ class Settled:
             self.one(ask, answer, number)
             self.numbers[ask.key] = number
         for ask, answer in left:
-            if answer is not None and not is_unavailable(answer):
+            if answer is None or is_unavailable(answer):
+                self.undone += 1
+            else:
                 self.compare(ask, answer)
 
     def compare(self, ask, answer):
