@@ -16,14 +16,17 @@ from office.ways import reply_to
 
 PAGE = 4096
 ROOM = 3 << 30
+# the seconds that this program takes to send one of many
+SENDING = 0.0008
 
 
 def kill(trial, asks, after):
-    """A kill -9 while commands are on their way: each is done or not done, and done where it was answered."""
+    """A kill -9 while commands are on their way, after this share of the time that they take: each is done or not
+    done, and done where it was answered."""
     trial.up()
     trial.sign_in(asks)
     sent = trial.pool.submit(lambda: [it for it, _ in trial.at_once(asks)])
-    time.sleep(after * trial.figures.slowness())
+    time.sleep(after * len(asks) * (trial.figures.usual() + SENDING))
     trial.server.kill(signal.SIGKILL)
     answers = sent.result()
     trial.figures.faults["kills"] += 1
@@ -161,7 +164,7 @@ def killed_load(trial, asks, lines):
     try:
         run.stdin.write(lines)
         run.stdin.flush()
-        time.sleep((0.01 + 0.001 * (len(lines) % 60)) * trial.figures.slowness())
+        time.sleep(len(asks) * trial.figures.usual() * (len(lines) % 60) / 20)
         run.send_signal(signal.SIGKILL)
         run.stdin.close()
     except BrokenPipeError:

@@ -28,9 +28,9 @@ class Figures:
         self.nights.append((at, requests, memory, file, log, home))
         self.loads.append(os.getloadavg()[1])
 
-    def slowness(self):
-        """How much slower an answer is here than in two milliseconds, where it is."""
-        return max([1, *(statistics.median(it[-200:]) / 0.002 for way, it in self.times.items() if way == "http")])
+    def usual(self):
+        """The seconds that an answer of the interface takes here."""
+        return statistics.median(self.times["http"][-200:] or [0.002])
 
     def total(self):
         return sum(self.answers.values())
