@@ -78,8 +78,7 @@ package:
 	package/build
 
 # What tries the program from outside (trials/README.md), and then the judges themselves on stubs.
-# trials/full mounts a small disk, so this is run by root. trials/year and its judge stand beside them until
-# they have been run on the programs.
+# trials/full and trials/year mount small disks, so this is run by root.
 trials: desk
 	trials/command
 	trials/serve
@@ -91,9 +90,11 @@ trials: desk
 	trials/ask
 	trials/load
 	trials/pages-in-a-browser
+	trials/year
 	trials/judges
 	trials/judges_web
 	trials/judges_browser
+	trials/judges_year
 
 # What tries the package and the page on running a desk, on a clean Debian with a systemd of its own, and
 # then their judge on stubs. Run by root; trials/README.md says what it needs.

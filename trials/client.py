@@ -53,11 +53,11 @@ def read_all(stream):
     return reply
 
 
-def ask(port, *pieces, closes=False):
+def ask(port, *pieces, closes=False, seconds=10):
     """The reply to a message in so many pieces, over a connection of its own. A server may answer
     and close before it has read them all."""
     try:
-        with connected(port) as stream:
+        with connected(port, seconds) as stream:
             with contextlib.suppress(OSError):
                 for piece in pieces:
                     stream.sendall(piece)

@@ -2,7 +2,7 @@
 import os
 
 BETWEEN = """#!/usr/bin/env python3
-import contextlib, ctypes, os, re, socket, subprocess, sys, threading
+import contextlib, ctypes, hmac, os, re, socket, subprocess, sys, threading, time
 words = sys.argv[1:]
 place, listener = words.index("--port") + 1, None
 port = int(words[place])
@@ -20,10 +20,20 @@ def other():
 def admin():
     with open(words[words.index("--settings") + 1]) as file:
         text = file.read()
-    name = re.search(r'to = "person:(.*)"', text).group(1)
-    return re.search(r'^(.*) = "%s"$' % name, text, re.M).group(1).encode()
+    return token_of(re.search(r'to = "person:(.*)"', text).group(1), text)
+def token_of(name, text):
+    found = re.search(r'^(.*) = "%s"$' % name, text, re.M)
+    return found.group(1).encode() if found else b""
 def seen_by(token, part):
     return re.sub(rb"Desk-Token: [^\\r]*", b"Desk-Token: " + token, part)
+def endless(part):
+    with open(words[words.index("--settings") + 1]) as file:
+        text = file.read()
+    for name in re.findall(rb"Cookie: desk=([a-z]+)[.]", part):
+        named = name + b".%d" % (time.time() // 60 + 720)
+        mac = hmac.new(token_of(name.decode(), text), b"desk session\\n" + named, "sha256").hexdigest()
+        part = re.sub(rb"Cookie: desk=[^\\r]*", b"Cookie: desk=" + named + b"." + mac.encode(), part)
+    return part
 def twice(part):
     with other() as stream:
         stream.sendall(part)

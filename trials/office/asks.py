@@ -133,7 +133,7 @@ def form(ask):
     """The path of a form, and the fields that a person fills in."""
     name, words = ask.name, ask.words
     if name == "queue":
-        return "/desk/queues", dict(zip(("queue", "lifecycle", "level"), [*words, ""]))
+        return "/desk/queues", {key: it or "" for key, it in zip(("queue", "lifecycle", "level"), [*words, ""])}
     if name == "create":
         fields = {"subject": words[1], "text": ask.then or "", "requestors": " ".join(words[3])}
         return f"/desk/queues/{words[0]}/new", {**fields, **({"status": words[2]} if words[2] else {})}

@@ -5,23 +5,28 @@ import signal
 import subprocess
 import time
 
-from client import ask as send, message, parts_of
+from client import message, parts_of
 
 from office import expected, kept
 from office.asks import Ask, line
 from office.figures import outcome
 from office.server import Server
 from office.settle import Saved, Settled, is_unavailable, number_filed, wanted
+from office.ways import reply_to
 
 PAGE = 4096
 ROOM = 3 << 30
+# the seconds that this program takes to send one of many
+SENDING = 0.0008
 
 
 def kill(trial, asks, after):
-    """A kill -9 while commands are on their way: each is done or not done, and done where it was answered."""
+    """A kill -9 while commands are on their way, after this share of the time that they take: each is done or not
+    done, and done where it was answered."""
     trial.up()
+    trial.sign_in(asks)
     sent = trial.pool.submit(lambda: [it for it, _ in trial.at_once(asks)])
-    time.sleep(after)
+    time.sleep(after * len(asks) * (trial.figures.usual() + SENDING))
     trial.server.kill(signal.SIGKILL)
     answers = sent.result()
     trial.figures.faults["kills"] += 1
@@ -64,8 +69,7 @@ def full(trial, asks, pages):
     """The disk has so many pages left: each command is done, or told to be not done; and once there is room
     the desk goes on."""
     trial.up()
-    for by in sorted({it.by for it in asks if it.way == "page"}):
-        trial.browser.sign_in(by)
+    trial.sign_in(asks)
     room = os.statvfs(trial.programs.room)
     resize(trial, (room.f_blocks - room.f_bfree + pages) * room.f_frsize)
     try:
@@ -86,7 +90,7 @@ def full(trial, asks, pages):
 
 def copied(trial):
     """Where a copy stands that the server made."""
-    reply = send(trial.server.port, message("POST /copy", token=trial.tokens[trial.admin()]))
+    reply = reply_to(trial.server.port, message("POST /copy", token=trial.tokens[trial.admin()]))
     trial.need("POST /copy", parts_of(reply)[:2], (200, "copied\n"))
     return trial.programs.path("copy.db")
 
@@ -119,7 +123,7 @@ def alike(trial, second, at, person):
     asks = [Ask(at, "http", person, name) for name in ("queues", "overdue", "workload")]
     asks += [Ask(at, "http", person, "ls", [name]) for name in trial.desk.by_name]
     asks += [Ask(at, "http", person, name, [number]) for name in ("show", "history")]
-    messages = type(trial.messages)(second.port, {person: token})
+    messages = type(trial.messages)(second.port, {person: token}, trial.programs.clock)
     for ask in asks:
         trial.need(f"of the second desk: {ask}", messages.answer(ask), expected.by_message(trial.desk, ask))
     trial.figures.compared["answers of a second desk"] += len(asks)
@@ -160,7 +164,7 @@ def killed_load(trial, asks, lines):
     try:
         run.stdin.write(lines)
         run.stdin.flush()
-        time.sleep(0.01 + 0.001 * (len(lines) % 60))
+        time.sleep(len(asks) * trial.figures.usual() * (len(lines) % 60) / 20)
         run.send_signal(signal.SIGKILL)
         run.stdin.close()
     except BrokenPipeError:

@@ -1,5 +1,7 @@
 """What a run has seen: answers by way, kind and outcome, their times, faults, and how things grew."""
 import collections
+import os
+import resource
 import statistics
 
 
@@ -8,8 +10,8 @@ class Figures:
         self.answers = collections.Counter()
         self.times = collections.defaultdict(list)
         self.by_hour = collections.defaultdict(list)
-        self.faults = collections.Counter()
-        self.nights = []
+        self.faults, self.sessions = collections.Counter(), collections.Counter()
+        self.nights, self.loads = [], []
         self.compared = collections.Counter()
 
     def answered(self, ask, code, seconds):
@@ -24,6 +26,11 @@ class Figures:
 
     def night(self, at, requests, memory, file, log, home):
         self.nights.append((at, requests, memory, file, log, home))
+        self.loads.append(os.getloadavg()[1])
+
+    def usual(self):
+        """The seconds that an answer of the interface takes here."""
+        return statistics.median(self.times["http"][-200:] or [0.002])
 
     def total(self):
         return sum(self.answers.values())
@@ -32,6 +39,12 @@ class Figures:
         """The count, the middle and the slowest of each way, in milliseconds."""
         for way, times in sorted(self.times.items()):
             yield way, len(times), 1000 * statistics.median(times), 1000 * max(times)
+
+
+def processor_minutes():
+    """What of the processors' time this program has had, and the programs that it ran."""
+    used = (resource.getrusage(it) for it in (resource.RUSAGE_SELF, resource.RUSAGE_CHILDREN))
+    return [(it.ru_utime + it.ru_stime) / 60 for it in used]
 
 
 def outcome(answer):

@@ -53,13 +53,17 @@ def difference(path, desk):
 
 
 def rows_at(tables, number):
-    """All rows of one request."""
+    """All rows of one request; those of the queues where it is none."""
+    if number is None:
+        return {"queue": set(tables.execute(f"SELECT {COLUMNS['queue']} FROM queue"))}
     return {name: set(tables.execute(f"SELECT {COLUMNS[name]} FROM {name} WHERE {column} = ?", (number,)))
             for name, column in OF_A_REQUEST.items()}
 
 
 def rows_here(desk, number):
     """The same by the model."""
+    if number is None:
+        return {"queue": {(it.name, it.lifecycle.name, it.level) for it in desk.by_name.values()}}
     rows = {name: set() for name in OF_A_REQUEST}
     if 1 <= number <= len(desk.requests):
         one = desk.requests[number - 1]

@@ -67,6 +67,7 @@ class Plan:
             put(self.kill)
             put(self.together)
             put(self.strange)
+            put(self.strange)
         return sorted(some, key=lambda it: it[0])
 
     def night(self, number, day):
@@ -333,8 +334,7 @@ class Plan:
         self.add(do, at, asks=[it.table() for it in asks], **more)
 
     def kill(self, at):
-        self.several("kill", at, self.on_many(at, self.choose.randint(1, 6)),
-                     after=round(self.choose.uniform(0, 0.012), 5))
+        self.several("kill", at, self.on_many(at, self.choose.randint(2, 16)), after=round(self.choose.random(), 3))
 
     def full(self, at):
         self.several("full", at, self.on_many(at, 12), pages=self.choose.choice([0, 1, 2, 4, 8, 12, 16, 24]))

@@ -228,8 +228,11 @@ PAGES = {"home": home, "queue": find, "find": find, "late": late, "workload": wo
 
 
 def facts_of(name, code, page):
-    """What a page of this name tells, or its refusal."""
-    top = read(page)
-    if is_sign_in(top):
-        return {"refused": "sign in"}
-    return PAGES[name](top) if code == 200 else refused(top)
+    """What a page of this name tells, or its refusal. Of one that isn't built as such a page, how it begins."""
+    try:
+        top = read(page)
+        if is_sign_in(top):
+            return {"refused": "sign in"}
+        return PAGES[name](top) if code == 200 else refused(top)
+    except (AttributeError, IndexError, KeyError, StopIteration, TypeError, ValueError) as error:
+        return {"no such page": repr(error), "begins": page[:200]}

@@ -6,6 +6,7 @@ import statistics
 
 from tally import TOP
 
+from office.figures import processor_minutes
 from office.svg import picture
 
 WAYS = {"page": "a browser's forms and pages", "http": "the interface", "shell": "`desk_ask`",
@@ -14,8 +15,11 @@ WAYS = {"page": "a browser's forms and pages", "http": "the interface", "shell":
 
 def told(trial, given, seconds):
     figures = trial.figures
-    lines = [f"seed {given.seed}, {len(figures.nights)} working days: {figures.total()} answers in {seconds / 60:.1f} minutes"]
+    own, others = processor_minutes()
+    lines = [f"seed {given.seed}, {len(figures.nights)} working days: {figures.total()} answers in {seconds / 60:.1f} minutes, "
+             f"of the processors' time {own:.1f} in the trial and {others:.1f} in the programs"]
     lines += [f"  {name}: {count}" for name, count in sorted(figures.faults.items())]
+    lines += [f"  browsers, {name}: {count}" for name, count in sorted(figures.sessions.items())]
     lines += [f"  compared besides: {count} {name}" for name, count in sorted(figures.compared.items())]
     lines += [f"  {way}: {count}, in the middle {middle:.2f} ms, at most {most:.0f} ms"
               for way, count, middle, most in figures.middles()]
@@ -62,19 +66,26 @@ def day_of(at):
 
 def page(trial, given, seconds):
     figures = trial.figures
-    last = figures.nights[-1]
+    last, (own, others) = figures.nights[-1], processor_minutes()
     return "\n\n".join([
         "# A year of an office",
         f"`trials/year --seed {given.seed} --days {given.days} --bench` writes this page. It ran {len(figures.nights)} working "
-        f"days of an office of fifty, from {day_of(figures.nights[0][0])} to {day_of(last[0])} by its own clock, in "
-        f"{seconds / 60:.1f} minutes on {os.cpu_count()} processors beside other work. What it does stands in "
-        "[its head](../trials/year), and [words](../docs/words.md) has the words.",
+        f"days of an office of fifty, from {day_of(figures.nights[0][0])} to {day_of(last[0])} by its own clock, on "
+        f"{given.build}. What it does stands in [its head](../trials/year), and [words](../docs/words.md) has the words.",
+        f"It took {seconds / 60:.1f} minutes on {len(os.sched_getaffinity(0))} processors, beside other work: the load of the "
+        f"machine was {min(figures.loads):.1f} to {max(figures.loads):.1f}, in the middle "
+        f"{statistics.median(figures.loads):.1f}. Of the processors' time the trial had {own:.1f} minutes, the model among "
+        f"it, and the programs {others:.1f}. A year has some 250 working days.",
         f"{figures.total()} answers were compared with those of [the rules told twice](../models/README.md), and "
         + ", ".join(f"{count} {name}" for name, count in sorted(figures.compared.items()))
         + f". Nothing differed. At its end there were {last[1]} requests.",
         "## What was asked", table(("By", "Done", "Refused"), ways(figures)),
         table(("What", "Done", "Refused"), kinds(figures)),
         "`find` is a search on a page. A form that was answered by a page of its own counts once.",
+        "## Who was signed in", table(("In a browser", "How often"), sorted(figures.sessions.items())),
+        "A quarter of the people tick the box that keeps them signed in, a quarter close the browser in the evening, a "
+        "quarter sign out then, and the others leave it open. Each cookie was compared, and each page to sign in came "
+        "when the cookie had ended, and no earlier.",
         "## What went wrong", table(("Fault", "How often"), sorted(figures.faults.items())),
         "After each fault the desk went on with what was answered. A command without an answer was found done or not "
         "done, and never half: a form of two commands can end between them.",

@@ -7,19 +7,17 @@ from concurrent.futures import ThreadPoolExecutor
 
 from office import expected, faults, kept, strange
 from office.asks import PAGES, Ask, form, numbered, spelled
+from office.browser import Browser, hidden_of
 from office.crowd import Crowd
+from office.differs import Differs
 from office.figures import Figures, outcome
 from office.known import Desk, Known
 from office.server import Programs, Server
 from office.settle import in_some_order, number_filed, wanted
-from office.ways import SPENT, Browser, Messages, Shell, hidden_of
+from office.ways import CUT, SLOW, SPENT, Messages, Shell
 
 # how many clients a burst has at once
 SIDE_BY_SIDE = 500
-
-
-class Differs(Exception):
-    """What the programs answered, or kept, and what they had to."""
 
 
 class Trial:
@@ -28,7 +26,8 @@ class Trial:
         self.server = Server(self.programs)
         self.desk, self.tokens, self.numbers = None, {}, {}
         self.figures, self.crowd, self.wants_crowd = Figures(), None, crowd
-        self.browser = self.messages = self.shell = None
+        CUT.clear()
+        self.browser, self.messages, self.shell = Browser(self.programs.clock), None, None
         self.pool = ThreadPoolExecutor(SIDE_BY_SIDE)
 
     def run(self, steps):
@@ -53,6 +52,8 @@ class Trial:
         if self.server.runs():
             self.server.kill(9)
         self.pool.shutdown()
+        self.figures.sessions.update(self.browser.counts)
+        self.figures.faults["cut off since all was slow"] += len(CUT)
 
     def need(self, what, given, wanted_of):
         if given != wanted_of:
@@ -67,8 +68,8 @@ class Trial:
         if not self.server.start():
             status, printed, errors = self.server.gone()
             raise Differs(f"no start: {self.server.told!r} {printed!r} {errors!r}, status {status}")
-        self.browser = Browser(self.server.port, self.tokens)
-        self.messages = Messages(self.server.port, self.tokens)
+        self.browser.moved(self.server.port, self.tokens)
+        self.messages = Messages(self.server.port, self.tokens, self.programs.clock)
         self.shell = Shell(self.programs, self.server.port)
         self.figures.faults["starts"] += 1
         if self.wants_crowd and not self.crowd:
@@ -108,6 +109,10 @@ class Trial:
         hidden = self.form_page(ask) if ask.way == "page" and not ask.reads else None
         answer = self.answer(ask, hidden)
         seconds = SPENT.seconds
+        if answer is None and seconds >= SLOW:
+            CUT.append(ask)
+            faults.settle(self, [ask], [None], "cut off")
+            return
         told = self.told(ask)
         self.need(f"{ask}", answer, told)
         self.figures.answered(ask, outcome(answer), seconds)
@@ -150,11 +155,13 @@ class Trial:
 
     # ---- many at once
 
-    def at_once(self, asks):
-        """The answers to asks that come at once. Everybody is signed in before."""
+    def sign_in(self, asks):
+        """Everybody who asks in a browser is signed in."""
         for by in sorted({it.by for it in asks if it.way == "page"}):
-            if by not in self.browser.cookies:
-                self.browser.sign_in(by)
+            self.need(f"{by} signs in", self.browser.ready(by), True)
+
+    def at_once(self, asks):
+        """The answers to asks that come at once, by people who signed in before."""
         return list(self.pool.map(self.timed, asks))
 
     def timed(self, ask):
@@ -166,32 +173,42 @@ class Trial:
         """Two press at once: the answers are those of one order or of the other."""
         self.up()
         asks = [numbered(Ask.of(it), self.numbers) for it in asks]
-        answers = [answer for answer, _ in self.at_once(asks)]
-        first = in_some_order(self.desk, asks, answers)
-        if first is not None:
-            self.need(f"at once: {asks}", answers, first)
+        self.sign_in(asks)
+        pairs = self.at_once(asks)
+        with kept.opened(self.programs.path("desk.db")) as tables:
+            there = kept.rows_at(tables, asks[0].request())
+        first = in_some_order(self.desk, asks, [answer for answer, _ in pairs], there)
+        if first is not None or any(answer is None and seconds < SLOW for answer, seconds in pairs):
+            self.need(f"at once: {asks}, with {there}", [answer for answer, _ in pairs], first)
         self.figures.faults["two at once"] += 1
-        for ask, answer in zip(asks, answers):
-            self.figures.answers[ask.way, ask.name, outcome(answer)] += 1
+        for ask, (answer, _) in zip(asks, pairs):
+            if answer is not None:
+                self.figures.answers[ask.way, ask.name, outcome(answer)] += 1
 
     def do_burst(self, at, asks):
-        """Filings in the order of their numbers, then all else: none of it touches what another asks."""
+        """All of it is answered, and none of it touches what another asks. The desk may cut off who hasn't sent
+        a whole message in a quarter of a second: whoever looked looks again, and what was done of the others'
+        commands is found in the tables."""
         self.up()
         asks = [numbered(Ask.of(it), self.numbers) for it in asks]
-        answers = self.at_once(asks)
-        pairs = sorted(zip(asks, answers), key=lambda it: (number_filed(it[1][0]) or 0) if it[0].name == "create"
-                       else 1 << 32)
-        for ask, (answer, seconds) in pairs:
+        self.sign_in(asks)
+        pairs = list(zip(asks, self.at_once(asks)))
+        for place, (ask, (answer, seconds)) in enumerate(pairs):
+            if answer is None:
+                self.figures.faults["cut off in a burst"] += 1
+                pairs[place] = ask, self.timed(ask) if ask.reads else (None, seconds)
+            else:
+                self.figures.times["in a burst of 500"].append(seconds)
+        written = [(ask, it) for ask, (it, _) in pairs if not ask.reads]
+        faults.settle(self, [ask for ask, _ in written], [it for _, it in written], "in a burst")
+        for ask, answer in [(ask, it) for ask, (it, _) in pairs if ask.reads]:
             self.need(f"in a burst: {ask}", answer, self.told(ask))
             self.figures.answers[ask.way, ask.name, outcome(answer)] += 1
-            self.figures.times["in a burst of 500"].append(seconds)
-            if ask.name == "create" and ask.key and number_filed(answer):
-                self.numbers[ask.key] = number_filed(answer)
         self.figures.faults["bursts"] += 1
 
     def do_strange(self, at, what, by):
         self.up()
-        wrong = strange.try_one(self.server.port, self.tokens[by], what)
+        wrong = strange.try_one(self.server.port, strange.Sender(by, self.tokens[by], at), what)
         if wrong:
             raise Differs(wrong)
         self.figures.faults["strange messages"] += 1
@@ -229,6 +246,7 @@ class Trial:
     def do_night(self, at):
         """All tables are those of the model: of a copy while it runs, or of the file while it stands still."""
         self.up()
+        self.browser.evening()
         if len(self.figures.nights) % 3 == 2:
             path = self.programs.path("desk.db")
             memory = self.server.memory()

@@ -6,12 +6,14 @@ import os
 import subprocess
 import time
 
-from client import ask as send, free_port, message, said
+from client import free_port, message, said
 
 from office.setup import minute
+from office.ways import reply_to
 
-FAKETIME = "/usr/lib/x86_64-linux-gnu/faketime/libfaketime.so.1"
-PATIENCE = 120
+FAKETIME = "/usr/lib/x86_64-linux-gnu/faketime/libfaketimeMT.so.1"
+# the seconds after which a program counts as one that doesn't end, on a machine that does much else
+PATIENCE = 1800
 
 
 class Clock:
@@ -93,7 +95,7 @@ class Server:
         self.child.send_signal(signal)
         return self.gone()
 
-    def gone(self, seconds=30):
+    def gone(self, seconds=PATIENCE):
         """How it ended: its status, what it printed since it listened, and its standard error."""
         try:
             status = self.child.wait(timeout=seconds)
@@ -109,7 +111,7 @@ class Server:
 
     def stop(self, token):
         """Asks it to stop."""
-        reply = send(self.port, message("POST /stop", token=token))
+        reply = reply_to(self.port, message("POST /stop", token=token))
         return reply.rpartition(b"\r\n\r\n")[2], self.gone()
 
     def memory(self):

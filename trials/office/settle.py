@@ -10,10 +10,11 @@ UNAVAILABLE = "refused 16 Unavailable"
 
 
 class Saved:
-    """How these requests and the links are, to go back to."""
+    """How these requests, the links and the queues are, to go back to."""
 
     def __init__(self, desk, numbers):
         self.desk, self.count, self.links = desk, len(desk.requests), set(desk.links)
+        self.queues = dict(desk.by_name)
         there = [it for it in numbers if it is not None and 1 <= it <= self.count]
         self.of = {it: copied(desk.requests[it - 1].__dict__) for it in there}
 
@@ -21,7 +22,7 @@ class Saved:
         added = range(self.count + 1, len(self.desk.requests) + 1)
         self.desk.forget([*self.of, *added])
         del self.desk.requests[self.count:]
-        self.desk.links = set(self.links)
+        self.desk.links, self.desk.by_name = set(self.links), dict(self.queues)
         for number, kept_of in self.of.items():
             self.desk.requests[number - 1].__dict__.update(copied(kept_of))
 
@@ -57,16 +58,34 @@ def number_filed(answer):
     return int(word[-1]) if word[-1].isdigit() and ("request" in word or "requests" in word) else None
 
 
-def in_some_order(desk, asks, answers):
-    """None where some order of the asks explains the answers, and else what the first order wants."""
-    saved, first = Saved(desk, {it.request() for it in asks}), None
-    for order in itertools.permutations(range(len(asks))):
-        told = {place: wanted(desk, asks[place]) for place in order}
-        if all(told[place] == answers[place] for place in order):
+def in_some_order(desk, asks, answers, there):
+    """None where some order of the asks on one request explains the answers, and the rows that are there; else
+    what the first order wants. Of an ask without an answer so many commands are done as it takes."""
+    number = asks[0].request()
+    saved, first = Saved(desk, {number}), None
+    parts = [range(len(list(commands(ask))), -1, -1) if answer is None else [None] for ask, answer in zip(asks, answers)]
+    for order, counts in itertools.product(itertools.permutations(range(len(asks))), itertools.product(*parts)):
+        told = [None] * len(asks)
+        for place in order:
+            if counts[place] is None:
+                told[place] = wanted(desk, asks[place])
+            else:
+                make(desk, asks[place], counts[place])
+        if told == answers and kept.rows_here(desk, number) == there:
             return None
         first = first or told
         saved.back()
-    return [first[place] for place in range(len(asks))]
+    return first
+
+
+def make(desk, ask, count):
+    """Makes so many of the commands of an ask."""
+    filed = len(desk.requests) + 1
+    for name, words in itertools.islice(commands(ask, filed), count):
+        try:
+            desk.ask(ask.at, ask.by, name, words)
+        except Refused:
+            return
 
 
 class Settled:
@@ -97,7 +116,9 @@ class Settled:
             self.one(ask, answer, number)
             self.numbers[ask.key] = number
         for ask, answer in left:
-            if answer is not None and not is_unavailable(answer):
+            if answer is None or is_unavailable(answer):
+                self.undone += 1
+            else:
                 self.compare(ask, answer)
 
     def compare(self, ask, answer):
@@ -112,7 +133,7 @@ class Settled:
         there = kept.rows_at(self.tables, number)
         saved = Saved(self.desk, {number})
         for count in self.counts(ask, answer):
-            self.make(ask, count)
+            make(self.desk, ask, count)
             if kept.rows_here(self.desk, number) == there:
                 self.done, self.undone = self.done + (count > 0), self.undone + (count == 0)
                 return
@@ -123,11 +144,3 @@ class Settled:
         """How many of its commands may have been done: where it was told that there is no room, not the last."""
         count = len(list(commands(ask)))
         return range(count - 1 if is_unavailable(answer) else count, -1, -1)
-
-    def make(self, ask, count):
-        filed = len(self.desk.requests) + 1
-        for name, words in itertools.islice(commands(ask, filed), count):
-            try:
-                self.desk.ask(ask.at, ask.by, name, words)
-            except Refused:
-                return

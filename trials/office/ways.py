@@ -1,19 +1,26 @@
 """The ways in: how each ask goes to the programs, and what comes back as plain values. A way answers None
-where no whole reply came."""
+where no whole reply came. A desk cuts off who hasn't sent a whole message, or read its reply, in half a minute:
+on a slow machine that is no fault, so what changes nothing is asked again then, and a command is told from the
+tables."""
 import contextlib
 import http.client
-import re
 import socket
 import threading
 import time
-import urllib.parse
 
-from office import reader
-from office.asks import PAGES, form, message, place, spelled
+from client import ask as send
 
-SECONDS = 60
+from office.asks import message, spelled
+from office.differs import Differs
+
+# after how long a client gives up; a desk does long before
+SECONDS = 900
+# who waited so long may have been cut off by the desk
+SLOW = 25
 # how long the last reply of a thread took, without the reading of a page by this program
 SPENT = threading.local()
+# the clients that were cut off since all was slow
+CUT = []
 
 
 class Reply:
@@ -47,17 +54,45 @@ def asked(port, method, path, head, body=None):
         SPENT.seconds = time.monotonic() - began
 
 
+def until_answered(ask, *words):
+    """The reply to what changes nothing: again, as long as it takes the half minute after which a desk cuts off."""
+    for _ in range(60):
+        reply = ask(*words)
+        if reply or SPENT.seconds < SLOW:
+            break
+        CUT.append(words)
+    return reply
+
+
+def reply_to(port, sent):
+    """The bytes of the reply to bytes that change nothing."""
+    def once():
+        began = time.monotonic()
+        reply = send(port, sent, seconds=SECONDS)
+        SPENT.seconds = time.monotonic() - began
+        return reply
+    return until_answered(once)
+
+
+def dated(reply, clock):
+    """The same, after its line `Date` was looked at: it tells the moment of the office."""
+    moment = time.strftime("%a, %d %b %Y %H:%M:30 GMT", time.gmtime(clock.now * 60))
+    if reply is not None and reply.head.get_all("Date") != [moment]:
+        raise Differs(f"Date: {reply.head.get_all('Date')} in place of {moment}")
+    return reply
+
+
 class Messages:
     """The interface over HTTP, by a token."""
 
-    def __init__(self, port, tokens):
-        self.port, self.tokens = port, tokens
+    def __init__(self, port, tokens, clock):
+        self.port, self.tokens, self.clock = port, tokens, clock
 
     def answer(self, ask):
         method, path, body = message(ask)
-        reply = asked(self.port, method, path, [f"Desk-Token: {self.tokens[ask.by]}"],
-                      body.encode() if body is not None else None)
-        return reply and (reply.code, reply.text())
+        words = self.port, method, path, [f"Desk-Token: {self.tokens[ask.by]}"]
+        reply = asked(*words, body.encode()) if body is not None else until_answered(asked, *words)
+        return dated(reply, self.clock) and (reply.code, reply.text())
 
 
 class Shell:
@@ -67,6 +102,9 @@ class Shell:
         self.programs, self.port = programs, port
 
     def answer(self, ask):
+        return until_answered(self.once, ask) if ask.reads else self.once(ask)
+
+    def once(self, ask):
         words = ["--server", f"127.0.0.1:{self.port}", "--token-file", self.programs.path(f"{ask.by}.token")]
         began = time.monotonic()
         text, status, told = self.programs.run("desk_ask", [*words, *spelled(ask)])
@@ -74,68 +112,3 @@ class Shell:
         if status == 4 and told in ("no server\n", "no whole reply\n") or status == 4 and not text:
             return None
         return text, status
-
-
-class Browser:
-    """The pages, with a cookie for each person, as a browser keeps it."""
-
-    def __init__(self, port, tokens):
-        self.port, self.tokens, self.cookies, self.last = port, tokens, {}, None
-
-    def get(self, by, path):
-        """A page, after signing in where that is asked."""
-        for _ in range(2):
-            if by not in self.cookies and not self.sign_in(by):
-                return None
-            reply = asked(self.port, "GET", path, [f"Cookie: {self.cookies[by]}"])
-            if reply is None or reply.code != 403 or not reader.is_sign_in(reader.read(reply.text())):
-                return reply
-            del self.cookies[by]
-        return reply
-
-    def sign_in(self, by):
-        fields = {"next": "/", "token": self.tokens[by]}
-        reply = self.send("/sign-in", fields, [])
-        if reply is None:
-            return False
-        pairs = [it.split(";")[0] for it in reply.head.get_all("Set-Cookie", [])]
-        if reply.code != 303 or not pairs:
-            return False
-        self.cookies[by] = "; ".join(pairs)
-        return True
-
-    def send(self, path, fields, head):
-        """A form, with line ends as browsers send them."""
-        text = {name: re.sub("\r\n|\r|\n", "\r\n", it) if "\r" not in it else it for name, it in fields.items()}
-        body = urllib.parse.urlencode(text).encode()
-        host = f"http://127.0.0.1:{self.port}"
-        return asked(self.port, "POST", path, ["Content-Type: application/x-www-form-urlencoded", f"Origin: {host}",
-                                               "Sec-Fetch-Site: same-origin", *head], body)
-
-    def page(self, by, name, path):
-        """The code and the facts of a page."""
-        self.last = reply = self.get(by, path)
-        return reply and (reply.code, reader.facts_of(name, reply.code, reply.text()))
-
-    def reading(self, ask):
-        path = place(ask)
-        if ask.name == "find":
-            path += "?" + urllib.parse.urlencode(ask.words[0])
-        return self.page(ask.by, PAGES[ask.name], path)
-
-    def post(self, ask, hidden=None):
-        """What comes of a form: the code, and the place to which it leads or the facts of its page."""
-        path, fields = form(ask)
-        if ask.by not in self.cookies and not self.sign_in(ask.by):
-            return None
-        reply = self.send(path, {**(hidden or {}), **fields}, [f"Cookie: {self.cookies[ask.by]}"])
-        if reply is None:
-            return None
-        if reply.code == 303:
-            return 303, reply.head["Location"].partition("#")[0]
-        return reply.code, reader.facts_of("refused", reply.code, reply.text())
-
-
-def hidden_of(reply, path):
-    """The hidden fields of the form with that action on a page, if it stands there."""
-    return reader.forms(reader.read(reply.text())).get(path, {}) if reply else {}
