@@ -1,6 +1,7 @@
 """One run of steps: the programs on the one side, the model on the other. Each answer is compared when it
 comes, and what a fault left undecided is found in the tables."""
 import os
+import sqlite3
 import statistics
 import time
 from concurrent.futures import ThreadPoolExecutor
@@ -39,6 +40,8 @@ class Trial:
                 getattr(self, "do_" + step["do"])(**{name: it for name, it in step.items() if name != "do"})
         except Differs as what:
             return place, str(what)
+        except sqlite3.OperationalError as what:
+            return place, f"the tables: {what} in place of those of a desk"
         finally:
             self.end()
         return None
