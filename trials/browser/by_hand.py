@@ -429,17 +429,15 @@ def elsewhere(origin):
 
 
 def other_sites():
-    """A link from another site meets the sign-in page and one press opens it, its forms are
-    refused, and it can't frame the desk."""
+    """A link from another site leads to its page, its forms are refused, and it can't frame the
+    desk."""
     with serving("others") as visitor, elsewhere(visitor.origin) as other:
         browser = signed_in(visitor)
         browser.open(other)
         told = browser.complaints()
         holds(f"a frame isn't refused: {told}", any("frame-ancestors 'none'" in it for it in told))
         browser.follow("#l")
-        expect("a link meets", (browser.path(), browser.has("[name=token]")), (AT, True))
-        browser.follow("main p a")
-        holds("one press opens nothing", browser.path() == AT and f"#{TALK}" in browser.text("h1"))
+        holds("a link leads nowhere", browser.path() == AT and f"#{TALK}" in browser.text("h1"))
         for button in ("#b", "#s", "#o"):
             browser.open(other)
             browser.follow(button)
