@@ -8,10 +8,11 @@ JOBS ?= $(shell awk -v n=$$(nproc) '/^MemAvailable/ { j = 1 + int(($$2 / 1000000
 	if (j > n) j = n; if (j > 4) j = 4; if (j > 1) print j }' /proc/meminfo)
 
 # The crates whose wrong edits the gate doesn't try. Those of page_wire and wire_core were refused, by 14
-# and 9 minutes and 5.8 and 6.9 GB; bench/edits hasn't been seen yet to refuse each of the others'.
+# and 9 minutes and 5.8 and 6.9 GB, those of store_tables by 6 on a busy machine and 1.8 GB; bench/edits
+# hasn't been seen yet to refuse each of the others'.
 # `make edits NAME=CRATE` tries one crate's; where that is cheap enough, its name goes from here.
-UNTRIED = check_core desk_load desk_program load_core page_wire service_core \
-	store_core store_tables wire_core
+UNTRIED = check_core desk_load desk_pages desk_program load_core page_routes page_wire service_core \
+	settings_places store_core store_tables wire_core
 
 # All others that have any.
 EDITED = $(filter-out $(UNTRIED),$(sort $(foreach it,$(wildcard crates/*/wrong/*.edit),\
@@ -66,10 +67,8 @@ install: desk
 	install -D -m 755 bin/desk_ask $(PREFIX)/bin/desk_ask
 	install -D -m 755 bin/desk_load $(PREFIX)/bin/desk_load
 	install -d $(PREFIX)/share/man/man1
-	docs/man desk > $(PREFIX)/share/man/man1/desk.1
-	docs/man desk_ask > $(PREFIX)/share/man/man1/desk_ask.1
-	install -D -m 644 docs/desk_web.1 $(PREFIX)/share/man/man1/desk_web.1
-	install -D -m 644 docs/load.1 $(PREFIX)/share/man/man1/desk_load.1
+	for it in desk desk_web desk_ask desk_load; do \
+		docs/man $$it > $(PREFIX)/share/man/man1/$$it.1 || exit 1; done
 	install -D -m 644 examples/desk_ask.bash $(PREFIX)/share/bash-completion/completions/desk_ask
 
 # bin/desk_VERSION_amd64.deb for Debian 12, of the programs that stand in bin/: run `make desk` before.

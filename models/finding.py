@@ -1,5 +1,6 @@
 """Searches once more, by docs/pages.md: what a caller finds, in which order, and how many."""
 from collections import namedtuple
+from unicodedata import category, unidata_version
 
 from hours import DAY, day_of
 
@@ -64,17 +65,21 @@ def is_filed(search, created):
 
 def has_words(desk, caller, search, request):
     """Whether each word stands in the subject, or in a text that the caller is told."""
-    words = [lowered(word) for word in search.words.split(" ") if word]
+    words = [folded(word) for word in search.words.split(" ") if word]
     texts = [request.subject]
     if words and search.replies:
         texts += [it.body for it in told(desk, caller, request) if it.kind in ("reply", "comment")]
-    texts = [lowered(text) for text in texts]
+    texts = [folded(text) for text in texts]
     return all(any(word in text for text in texts) for word in words)
 
 
-def lowered(text):
-    """The text with the letters of ASCII in small."""
-    return "".join(it.lower() if it.isascii() else it for it in text)
+def folded(text):
+    """The text by Unicode's default case folding, which is the same in each version for the
+    characters that an older one has. What this Python doesn't know yet it can't judge."""
+    for it in text:
+        if category(it) == "Cn":
+            raise ValueError(f"U+{ord(it):04X} is no character of Unicode {unidata_version}")
+    return text.casefold()
 
 
 def key_of(order, it):

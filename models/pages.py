@@ -44,10 +44,15 @@ def is_late(due, at):
     return due is not None and due < at
 
 
+def late_text(due, at):
+    """For how long it has been late, if it is."""
+    return span_text(at - due) if is_late(due, at) else ""
+
+
 def row(it, caller, at):
     one = it.request
     return [one.number, one.subject, sorted(one.roles["requestor"]), one.queue.name, one.status,
-            owner_text(one.owner), time_text(it.due), is_late(it.due, at), moment_text(it.last),
+            owner_text(one.owner), time_text(it.due), late_text(it.due, at), moment_text(it.last),
             whose(one.owner, caller)]
 
 
@@ -90,9 +95,8 @@ def queue(desk, at, caller, name):
 
 
 def late(desk, at, caller):
-    return {"rows": [[it.request.number, it.request.queue.name, owner_text(it.request.owner),
-                      moment_text(it.due), span_text(it.late), whose(it.request.owner, caller)]
-                     for it in desk.ask(at, caller, "overdue", [])]}
+    """The search for it, the most overdue first."""
+    return find(desk, at, caller, ANY._replace(late=True, order="due"))
 
 
 def span_text(minutes):
@@ -119,15 +123,38 @@ def new(desk, _at, caller, name):
 def request(desk, at, caller, number):
     shown = desk.ask(at, caller, "show", [number])
     one = shown.request
-    offers = moves(one)
     is_requestor = caller in one.roles["requestor"]
+    replies = desk.has_on(caller, "ReplyToTicket", one)
     return {
         "subject": one.subject, "queue": one.queue.name, "facts": facts(desk, at, shown),
         "history": [entry(it) for it in told(desk, caller, one)],
-        "moves": offers, "closing": None if is_requestor else closing(one, offers),
-        "unfolded": not is_requestor, "owner": owner_form(one, caller),
-        "owners": owners(desk, caller, one), "people": people(one, caller),
-        "levels": sorted(desk.settings.levels), "level": one.level}
+        "writes": [it for it, right in WRITES if desk.has_on(caller, right, one)],
+        "closing": closing(one, desk.reopened(one, False)) if replies and not is_requestor else None,
+        "crosses": crosses(desk, caller, shown), "change": change(desk, caller, one, is_requestor)}
+
+
+WRITES = [("reply", "ReplyToTicket"), ("comment", "CommentOnTicket")]
+
+
+def crosses(desk, caller, shown):
+    """Whether a person can be taken out, and a link away, by a press: by the right to change the request."""
+    one = shown.request
+    may = desk.has_on(caller, "ModifyTicket", one)
+    return [may and any(one.roles.values()), may and bool(shown.linked or shown.linking)]
+
+
+def change(desk, caller, one, is_requestor):
+    """What of the request the caller may change, or None where it is nothing."""
+    offers, owns = moves(desk, caller, one), owner_form(desk, caller, one)
+    modifies = desk.has_on(caller, "ModifyTicket", one)
+    sets = modifies or desk.has_on(caller, "Watch", one)
+    gives = one.owner == caller or desk.has_on(caller, "ReassignTicket", one)
+    if not (offers or owns or gives or sets):
+        return None
+    return {
+        "moves": offers, "owner": owns, "give": gives, "watch": sets, "link": modifies,
+        "unfolded": not is_requestor, "owners": owners(desk, caller, one), "people": people(one, caller),
+        "levels": sorted(desk.settings.levels) if modifies else [], "level": one.level if modifies else None}
 
 
 def facts(desk, at, shown):
@@ -165,20 +192,26 @@ def entry(it):
             it.body if is_text else None]
 
 
-def moves(one):
-    """The statuses to which its lifecycle lets it move, in the order of the lifecycle."""
+def moves(desk, caller, one):
+    """The statuses to which the caller may move it, in the order of the lifecycle."""
     cycle = one.queue.lifecycle
-    return [it for it in cycle.statuses if (one.status, it) in cycle.moves]
+    return [it for it in cycle.statuses if (one.status, it) in cycle.moves
+            and desk.has_on(caller, cycle.right_of(one.status, it), one)]
 
 
-def closing(one, offers):
-    """The first inactive status, if it is offered: a reply may move there too."""
-    first = one.queue.lifecycle.inactive[:1]
-    return first[0] if first and first[0] in offers else None
+def closing(one, reopened):
+    """The first inactive status, if the lifecycle moves there after a reply, which may have moved it."""
+    cycle = one.queue.lifecycle
+    first = cycle.inactive[:1]
+    return first[0] if first and (reopened or one.status, first[0]) in cycle.moves else None
 
 
-def owner_form(one, caller):
-    return "take" if one.owner is None else "untake" if one.owner == caller else "steal"
+def owner_form(desk, caller, one):
+    """The form for its owner that makes sense, where the caller may send it."""
+    if one.owner == caller:
+        return "untake"
+    name, right = ("take", "TakeTicket") if one.owner is None else ("steal", "StealTicket")
+    return name if all(desk.has_on(caller, it, one) for it in (right, "OwnTicket")) else None
 
 
 def owners(desk, caller, one):

@@ -34,6 +34,20 @@ def endless(part):
         mac = hmac.new(token_of(name.decode(), text), b"desk session\\n" + named, "sha256").hexdigest()
         part = re.sub(rb"Cookie: desk=[^\\r]*", b"Cookie: desk=" + named + b"." + mac.encode(), part)
     return part
+# the subject of what was filed last in a queue that few may see
+def latest():
+    asked = b"GET /queues/personnel/requests HTTP/1.1\\r\\nHost: desk\\r\\nDesk-Token: %s\\r\\n\\r\\n" % admin()
+    with other() as stream:
+        stream.sendall(asked)
+        reply = b"".join(iter(lambda: stream.recv(65536), b""))
+    subject = reply.splitlines()[-1][67:]
+    return subject if re.fullmatch(rb"[a-z' ]+ [0-9]+", subject) else b""
+def titled(part):
+    if b"<title>" not in part:
+        return part
+    more = latest()
+    part = re.sub(rb"Content-Length: (\\d+)", lambda it: b"Content-Length: %d" % (int(it[1]) + len(more)), part, count=1)
+    return part.replace(b"<title>", b"<title>" + more, 1)
 def twice(part):
     with other() as stream:
         stream.sendall(part)
@@ -50,10 +64,13 @@ def handle(stream):
         threading.Thread(target=there, daemon=True).start()
         while part := behind.recv(65536):
             stream.sendall({answered})
+        # so that the client sees the end of the reply, though the other thread still waits for more of the message
+        stream.shutdown(1)
 def until():
     status = run.wait()
     os._exit(status if status >= 0 else 128 - status)
-listener = socket.create_server(("127.0.0.1", port), backlog=128)
+# a burst's connections wait here: one that finds no room is tried again by its sender for minutes
+listener = socket.create_server(("127.0.0.1", port), backlog=1024)
 print("listening", port, flush=True)
 threading.Thread(target=until, daemon=True).start()
 while True:

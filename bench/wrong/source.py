@@ -124,7 +124,10 @@ def owner_in(head):
     named = [re.findall(r"\w+", it.partition(":")[0] if "trait" in it else it)[-1] for it in words]
     if len(named) == 1:
         return rf"{named[0]}(?:\+\w+)*"
-    return rf"\w*{named[1]}(?:\+\w+)*{named[0]}\w*"
+    if words[1].lstrip().startswith("("):
+        # (of a tuple the names of its types stand one after the other, with their arguments)
+        return rf"Tuple\d+\w*{named[1]}\w*{named[0]}\w*"
+    return rf"(?!Tuple\d)\w*{named[1]}(?:\+\w+)*{named[0]}\w*"
 
 
 def functions(text):

@@ -153,7 +153,7 @@ def folds():
         folded = ".more [name=status][value=rejected]"
         expect("what is folded", browser.run(
             "[...document.querySelectorAll('details.more [name=status]')].map(it => it.value)"),
-            ["rejected", "deleted"])
+            ["rejected"])  # bob may not delete
         browser.open(f"{visitor.origin}/desk/requests/{LAST}")
         browser.follow(folded)
         expect("a folded move", last_of(visitor, LAST), "status new rejected")
@@ -257,34 +257,46 @@ def rows(browser):
                        " Number(it.querySelector('a').href.split('/').at(-1)))")
 
 
+# the choice that narrows a list by a field
+CHOICE = ".pills a[href^='/desk/find?{}']"
+CHOSEN = "[...document.querySelectorAll('.pills [aria-current=true]')].map(it => it.innerText)"
+
+
 def choices():
-    """A list shows what is chosen, by the mouse and by the keys, and what the interface tells."""
+    """The choices above a list narrow it, whatever page or state one is at, and what is chosen is
+    marked and told."""
     with serving("choices") as visitor:
         lines = [(int(it[:7]), it[8:28].strip(), it[29:49].strip())
                  for it in visitor.told("/queues/support/requests").text.splitlines()[1:]]
+        lines.reverse()
         is_open = [it for it in lines if it[1] not in ("resolved", "rejected", "deleted")]
-        is_open.reverse()
-        wanted = {"mine": [it for it in is_open if it[2] == "bob"],
-                  "nobody": [it for it in is_open if it[2] == "Nobody"],
-                  "late": [it for it in is_open if it[0] in LATE], "all": is_open}
-        browser = signed_in(visitor, "bob", "/desk/queues/support")
-        for name, chosen in wanted.items():
-            browser.press(f"#{name}")
-            expect(f"{name} in a queue", rows(browser), [it[0] for it in chosen])
-        browser.press("#all")
-        browser.key("ArrowRight")
-        expect("by the keys", (browser.run(FOCUS + " && document.activeElement.id"), rows(browser)),
-               ("mine", [it[0] for it in wanted["mine"]]))
-        browser.open(f"{visitor.origin}/desk/queues/support")
-        browser.follow("main a[href$='state=closed']")
-        expect("closed ones", rows(browser), [it[0] for it in reversed(lines) if it not in is_open])
+        closed = [it for it in lines if it not in is_open]
+        wanted = {"owner=Me": [it for it in is_open if it[2] == "bob"],
+                  "owner=Nobody": [it for it in is_open if it[2] == "Nobody"],
+                  "late=yes": [it for it in is_open if it[0] in LATE], "owner=&": is_open,
+                  "state=closed": closed, "state=&": lines}
+        browser = signed_in(visitor, "bob")
+        for field, chosen in wanted.items():
+            browser.open(f"{visitor.origin}/desk/queues/support")
+            browser.follow(CHOICE.format(field))
+            expect(f"{field} in a queue", rows(browser), [it[0] for it in chosen])
+            told = browser.text(".paging").split()[0]
+            expect(f"how many by {field}", int(told), len(chosen))
+        browser.open(f"{visitor.origin}/desk/find?queue=support&state=closed")
+        browser.follow(CHOICE.format("owner=Me"))
+        expect("closed ones of one's own", rows(browser), [it[0] for it in closed if it[2] == "bob"])
+        expect("what is chosen", browser.run(CHOSEN), ["closed", "mine"])
+        holds("it isn't told", "closed, mine" in browser.run("document.title"))
+        browser.follow(".chips a[href^='/desk/find?owner=']")
+        expect("a part is taken away", rows(browser), [it[0] for it in closed])
         browser.open(f"{visitor.origin}/desk/queues/building")
         holds("an empty queue doesn't say so", browser.run(SHOWS.format(".none")) == 1)
+        holds("its form is folded", browser.has("details[open]"))
         browser.open(f"{visitor.origin}/desk/overdue")
         expect("late, all", sorted(rows(browser)), sorted(LATE))
-        browser.press("#nobody")
+        browser.follow(CHOICE.format("owner=Nobody"))
         expect("late, nobody's", rows(browser), [1])
-        browser.press("#mine")
+        browser.follow(CHOICE.format("owner=Me"))
         expect("late, mine", rows(browser), [2])
 
 

@@ -152,11 +152,11 @@ def many():
         took = time.monotonic() - begun
         holds(f"a queue of {MANY} took {took:.1f} seconds", took < SOON)
         expect("rows", browser.run(SHOWS.format("tbody tr")), 100)
-        holds("it isn't told how many there are", f"Found: {MANY}" in browser.text("main"))
-        browser.press("#mine")
+        holds("it isn't told how many there are", f"1 to 100 of {MANY}" in browser.text("main"))
+        browser.follow(".pills a[href^='/desk/find?owner=Me']")
         expect("rows of hers", browser.run(SHOWS.format("tbody tr")), 0)
         holds("it isn't said that there are none", browser.run(SHOWS.format(".none")) == 1)
-        browser.press("#nobody")
+        browser.follow(".pills a[href^='/desk/find?owner=Nobody']")
         expect("rows of nobody", browser.run(SHOWS.format("tbody tr")), 100)
         for width in (320, 1280):
             browser.window(width)

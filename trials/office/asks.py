@@ -1,6 +1,7 @@
 """What one person asks of the desk, and how it is said in each way in: words for `desk` and `desk_ask`,
 a line for `desk_load`, a message of the interface, a form of a page."""
 import json
+import urllib.parse
 from dataclasses import asdict, dataclass, field
 
 ACTS = {"status": ("status", ["status"]), "take": ("take", []), "steal": ("steal", []),
@@ -40,7 +41,8 @@ class Ask:
 
     def request(self):
         """The number of the request that it names first, or None."""
-        return self.words[0] if self.name in ACTS or self.name in ("show", "history") else None
+        names_one = self.name in ACTS or self.name in ("show", "history")
+        return self.words[0] if names_one and type(self.words[0]) is int else None
 
 
 def numbered(ask, numbers):
@@ -101,8 +103,10 @@ def quoted(word):
 # ---- messages
 
 def message(ask):
-    """The method, the path and the body of the message to the interface."""
+    """The method, the path and the body of the message to the interface. Nothing is decoded of a path, so what
+    can't stand in it is no name there either."""
     name, words = ask.name, ask.words
+    first = urllib.parse.quote(str(words[0]), safe="") if words else None
     if name == "queues":
         return "GET", "/queues", None
     if name in ("overdue", "workload"):
@@ -111,15 +115,15 @@ def message(ask):
         keys = zip(("queue", "lifecycle", "level"), [*words, None])
         return "POST", "/queues", body(dict(keys))
     if name == "ls":
-        return "GET", f"/queues/{words[0]}/requests", None
+        return "GET", f"/queues/{first}/requests", None
     if name == "create":
-        return "POST", f"/queues/{words[0]}/requests", body(
+        return "POST", f"/queues/{first}/requests", body(
             {"subject": words[1], "status": words[2], "requestors": words[3]})
     if name in ("show", "history"):
-        return "GET", f"/requests/{words[0]}" + ("/history" if name == "history" else ""), None
+        return "GET", f"/requests/{first}" + ("/history" if name == "history" else ""), None
     act, keys = ACTS[name]
     values = dict(zip(keys, words[1:] + [None]))
-    return "POST", f"/requests/{words[0]}/{act}", body(values)
+    return "POST", f"/requests/{first}/{act}", body(values)
 
 
 def body(values):
@@ -142,6 +146,15 @@ def form(ask):
     if name == "correspond" and ask.then:
         fields["status"] = ask.then
     return f"/desk/requests/{words[0]}/{act}", fields
+
+
+def form_page(ask):
+    """The path of the page on which a form stands, the page's name, and what it is of."""
+    if ask.name == "queue":
+        return "/", "home", []
+    if ask.name == "create":
+        return f"/desk/queues/{ask.words[0]}/new", "new", [ask.words[0]]
+    return f"/desk/requests/{ask.words[0]}", "request", [ask.words[0]]
 
 
 def place(ask):

@@ -10,7 +10,7 @@ from typing import NamedTuple
 import sessions
 
 from office import reader
-from office.asks import PAGES, form, place
+from office.asks import PAGES, form, form_page, place
 from office.differs import Differs
 from office.ways import asked, dated, until_answered
 
@@ -100,16 +100,28 @@ class Browser:
 
     def evening(self):
         """Some close their browser, and others sign out."""
-        for by, kept in list(self.kept.items()):
+        for by in list(self.kept):
             if habit(by) == SIGNS_OUT and self.stands(by):
-                reply = until_answered(self.send, "/sign-out", {}, [f"Cookie: desk={kept.value}"])
-                given = reply and (reply.code, reply.head.get_all("Set-Cookie"), reply.head["Location"])
-                wanted = 303, ["desk=; Path=/; Max-Age=0; HttpOnly; SameSite=Lax"], "/sign-in"
-                if given != wanted:
-                    raise Differs(f"{by} signs out: {given} in place of {wanted}")
-                self.counts["signed out"] += 1
+                self.sign_out(by)
             if habit(by) in (CLOSES, SIGNS_OUT):
                 self.kept.pop(by, None)
+
+    def sign_out(self, by):
+        """A person who is signed in signs out."""
+        reply = until_answered(self.send, "/sign-out", {}, [f"Cookie: desk={self.kept[by].value}"])
+        given = reply and (reply.code, reply.head.get_all("Set-Cookie"), reply.head["Location"])
+        wanted = 303, ["desk=; Path=/; Max-Age=0; HttpOnly; SameSite=Lax"], "/sign-in"
+        if given != wanted:
+            raise Differs(f"{by} signs out: {given} in place of {wanted}")
+        self.counts["signed out"] += 1
+        del self.kept[by]
+
+    def post_signed_out(self, ask, hidden):
+        """A form that is sent by one who signed out meanwhile: it is asked to sign in, to the form's page."""
+        path, fields = form(ask)
+        reply = self.send(path, {**(hidden or {}), **fields}, [])
+        self.is_asked_to_sign_in(ask.by, form_page(ask)[0], reply)
+        self.counts["signed out in another tab"] += 1
 
     # ---- pages and forms
 
@@ -148,11 +160,11 @@ class Browser:
         path, fields = form(ask)
         if not self.ready(ask.by):
             return None
-        reply = self.send(path, {**(hidden or {}), **fields}, [f"Cookie: desk={self.kept[ask.by].value}"])
+        self.last = reply = self.send(path, {**(hidden or {}), **fields}, [f"Cookie: desk={self.kept[ask.by].value}"])
         if reply is None:
             return None
         if reply.code == 303:
-            return 303, plain(reply.head["Location"])
+            return 303, reply.head["Location"]
         return reply.code, reader.facts_of("refused", reply.code, reply.text())
 
 

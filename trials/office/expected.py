@@ -3,21 +3,27 @@ makes the step on the model too."""
 import answers
 import pages
 from finding import ANY
-from rules import Refused
+from rules import MAX_TEXT, TEXT, Refused, is_of_form, refuse_if
 
 from office.asks import commands, words_of
+from office.hostile import is_search, unspelled
 
 STATUSES = {"ok": 0, "refused": 1}
 
 
 def by_words(desk, ask):
-    """What `desk` and `desk_ask` print, and their status."""
+    """What `desk`, `desk_load` and `desk_ask` print, and their status. What `desk_ask` has to say of words that
+    spell no command goes to the standard error."""
+    if unspelled(ask):
+        return {"shell": ("", 2), "file": ("bad words\n", 2), "load": ("bad words\n", 1)}[ask.way]
     text = answers.outcome_text(desk, ask.at, ask.by, ask.name, words_of(ask))
     return text, int(text.startswith("refused "))
 
 
 def by_message(desk, ask):
     """The code and the body of the reply of the interface."""
+    if unspelled(ask):
+        return (404, "bad request 1 NoRoute\n") if unspelled(ask) == "number" else (400, "bad request 4 BadBody\n")
     try:
         answer = desk.ask(ask.at, ask.by, ask.name, words_of(ask))
     except Refused as refusal:
@@ -28,25 +34,36 @@ def by_message(desk, ask):
 
 def by_form(desk, ask):
     """The code of the reply to a form, and where it leads or what its page tells."""
+    if unspelled(ask):
+        return 400, {"refused": "bad request 4 BadBody", "back": "/"}
     filed = done = None
-    for name, words in commands(ask, len(desk.requests) + 1):
-        try:
+    try:
+        refuse_beforehand(ask)
+        for name, words in commands(ask, len(desk.requests) + 1):
             answer = desk.ask(ask.at, ask.by, name, words)
-        except Refused as refusal:
-            return pages.code_of(refusal), refusal_facts(ask, refusal, filed, done)
-        filed, done = (answer, True) if name == "create" else (filed, True)
+            filed, done = (answer, True) if name == "create" else (filed, True)
+    except Refused as refusal:
+        return pages.code_of(refusal), refusal_facts(ask, refusal, filed, done)
     number = filed if ask.name == "create" else None if ask.name == "queue" else ask.words[0]
-    return 303, f"/desk/requests/{number}" if number is not None else "/"
+    return 303, f"/desk/requests/{number}#reply" if number is not None else "/"
+
+
+def refuse_beforehand(ask):
+    """A first text that no request can take is refused before its request is filed."""
+    for name, words in list(commands(ask))[1:]:
+        refuse_if("BadText", name == "correspond" and not is_of_form(TEXT, words[1], MAX_TEXT))
 
 
 def refusal_facts(ask, refusal, filed, is_half):
     """A form that had a text has it still, but where the text was sent and the move after it wasn't. The way
-    back leads to what the form was on, as far as the caller may know of it."""
+    back leads to what the form was on; to a queue only as far as the caller may know of it."""
     back = "/"
     if filed is not None:
         back = f"/desk/requests/{filed}"
-    elif refusal.name != "NotFound" and ask.name != "queue":
-        back = f"/desk/queues/{ask.words[0]}" if ask.name == "create" else f"/desk/requests/{ask.words[0]}"
+    elif ask.name == "create":
+        back = f"/desk/queues/{ask.words[0]}" if refusal.name != "NotFound" else "/"
+    elif ask.name != "queue":
+        back = f"/desk/requests/{ask.words[0]}"
     facts = {"refused": pages.refusal_text(refusal), "back": back}
     typed = {"create": ask.then or "", "correspond": ask.words[-1], "comment": ask.words[-1]}.get(ask.name)
     if typed is not None and not (is_half and ask.name == "correspond"):
@@ -55,6 +72,11 @@ def refusal_facts(ask, refusal, filed, is_half):
 
 
 def by_page(desk, ask, name, *words):
+    """The code of a page and its facts. A search that no form sends finds nothing, whoever looks."""
+    if name == "find":
+        if not is_search(words[0]):
+            return 400, {"no such search": True}
+        words = [search_of(words[0])]
     return pages.page(desk, ask.at, ask.by, name, *words)
 
 

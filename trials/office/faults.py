@@ -145,6 +145,8 @@ def load(trial, asks, killed):
     seconds = (time.monotonic() - began) / max(1, len(asks) - number + 1)
     told = [answered(trial, asks[it], seconds) for it in range(number - 1, len(asks))]
     text = "".join(f"{place}: {it}" for place, (it, _) in enumerate(told, number))
+    if number > len(asks):
+        text, told = f"no line after {len(asks)}\n", [("", 1)]
     trial.need("desk_load", (printed, status), (text, int(any(it for _, it in told))))
 
 

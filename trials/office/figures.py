@@ -4,14 +4,17 @@ import os
 import resource
 import statistics
 
+# the ways that a picture has together; all others are pages
+GROUPS = {"http": "the interface", **dict.fromkeys(("shell", "file", "load"), "the programs of the command line")}
+
 
 class Figures:
     def __init__(self):
         self.answers = collections.Counter()
         self.times = collections.defaultdict(list)
-        self.by_hour = collections.defaultdict(list)
+        self.by_hour, self.asked_by_hour = collections.defaultdict(list), collections.Counter()
         self.faults, self.sessions = collections.Counter(), collections.Counter()
-        self.nights, self.loads = [], []
+        self.nights, self.loads, self.fields = [], [], set()
         self.compared = collections.Counter()
 
     def answered(self, ask, code, seconds):
@@ -22,7 +25,9 @@ class Figures:
 
     def timed(self, way, at, seconds):
         self.times[way].append(seconds)
-        self.by_hour[at // 60 % 24].append(seconds)
+        hour = at // 60 % 24
+        self.by_hour[hour].append(seconds)
+        self.asked_by_hour[GROUPS.get(way, "pages"), hour] += 1
 
     def night(self, at, requests, memory, file, log, home):
         self.nights.append((at, requests, memory, file, log, home))
@@ -48,9 +53,11 @@ def processor_minutes():
 
 
 def outcome(answer):
-    """What an answer comes to, in a word: done, or the refusal."""
+    """What an answer comes to, in a word: done, the refusal, or that it was no command."""
     text = next((it for it in answer if isinstance(it, (str, dict))), "")
     if isinstance(text, dict):
-        text = text.get("refused") or "ok"
+        text = "bad search" if "no such search" in text else text.get("refused") or "ok"
     words = text.split()
+    if words[:1] == ["bad"] or 2 in answer:
+        return words[3] if len(words) > 3 else text.strip() or "bad words"
     return words[2] if words[:1] == ["refused"] and len(words) > 2 else "done"

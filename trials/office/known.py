@@ -1,5 +1,7 @@
-"""The model of the rules, made quick: rights and due moments are kept until they can change. Each
-change of a request makes an entry, so what was found for a number of entries stays true."""
+"""The model of the rules, made quick: rights, due moments and what searches look at are kept until they can
+change. Each change of a request makes an entry, so what was found for a number of entries stays true."""
+import functools
+
 import finding
 import rules
 from settings import Settings
@@ -20,15 +22,15 @@ class Known(Settings):
 
 
 class Desk(rules.Desk):
-    """A desk that keeps due moments and who may show what."""
+    """A desk that keeps due moments, who may show what, and what of it a search looks at."""
 
     def __init__(self, settings):
         super().__init__(settings)
-        self.dues, self.shown = {}, {}
+        self.dues, self.shown, self.sights = {}, {}, {}
 
     def with_settings(self, settings):
         """The same desk after a start with other settings."""
-        self.settings, self.dues, self.shown = settings, {}, {}
+        self.settings, self.dues, self.shown, self.sights = settings, {}, {}, {}
         for queue in self.by_name.values():
             queue.lifecycle = settings.lifecycles.get(queue.lifecycle.name, queue.lifecycle)
 
@@ -52,6 +54,30 @@ class Desk(rules.Desk):
             self.dues.pop(number, None)
             for key in [key for key in self.shown if key[1] == number]:
                 del self.shown[key]
+            for sights in self.sights.values():
+                sights.pop(number, None)
 
+
+def sights(desk, caller):
+    """What models/finding.py makes anew at each search."""
+    kept = desk.sights.setdefault(caller, {})
+    for request in desk.requests:
+        count, sight = kept.get(request.number, (None, None))
+        if count != len(request.entries):
+            sight = sight_of(desk, caller, request)
+            kept[request.number] = len(request.entries), sight
+        if sight:
+            yield sight
+
+
+def sight_of(desk, caller, request):
+    """What a search looks at, of a request that the caller may show; else None."""
+    if not desk.may_show(caller, request):
+        return None
+    return finding.Found(request, desk.due(request), finding.told(desk, caller, request)[-1].moment)
+
+
+finding.sights = sights
+finding.folded = functools.lru_cache(1 << 17)(finding.folded)
 
 __all__ = ["Desk", "Known", "finding", "rules"]

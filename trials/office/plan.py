@@ -7,11 +7,12 @@ import rules
 
 from office import texts
 from office.asks import Ask, commands
+from office.hostile import hostile, unspelled
 from office.known import Desk, Known
 from office.setup import QUEUES, Office, working_days
 
 FIRST_DAY = datetime.date(2026, 3, 23)
-ASKS_A_DAY, NIGHT_LINES = 240, 14
+ASKS_A_DAY, NIGHT_LINES, HOSTILE_A_DAY = 240, 14, 12
 KINDS = ["DependsOn", "MemberOf", "RefersTo"]
 ROLES = ["requestor", "cc", "admincc"]
 
@@ -66,20 +67,23 @@ class Plan:
         for _ in range(2):
             put(self.kill)
             put(self.together)
+            put(self.tabs)
             put(self.strange)
             put(self.strange)
+        for _ in range(HOSTILE_A_DAY):
+            put(self.field)
         return sorted(some, key=lambda it: it[0])
 
     def night(self, number, day):
         at, lines = moment_of(day, 20), []
         for _ in range(NIGHT_LINES):
             at += self.choose.randrange(10)
-            lines += [it for it in [self.some(at, "load")] if it is not None]
-            self.play(lines[-1] if lines else None)
+            lines += self.played(self.some(at, "load"))
+        lines += self.played(self.in_a_field(at, "load")[0])
         files = []
         for _ in range(2):
-            files += [it for it in [self.some(at + 1, "file")] if it is not None]
-            self.play(files[-1] if files else None)
+            files += self.played(self.some(at + 1, "file"))
+        files += self.played(self.in_a_field(at + 1, "file")[0])
         self.add("load", at, asks=[it.table() for it in lines], killed=self.choose.random() < 0.2)
         self.add("file", at + 1, asks=[it.table() for it in files])
         if number % 10 == 3:
@@ -98,9 +102,14 @@ class Plan:
             self.play(ask)
             self.add("ask", ask.at, ask=ask.table())
 
+    def played(self, ask):
+        """The ask, where there is one, after the model made it."""
+        self.play(ask)
+        return [ask] if ask else []
+
     def play(self, ask):
         """What would come of it. A number that the model gives is the one that steps name."""
-        if ask is None or ask.reads:
+        if ask is None or ask.reads or unspelled(ask):
             return
         filed = len(self.desk.requests) + 1
         for name, words in commands(ask, filed):
@@ -165,7 +174,10 @@ class Plan:
 
     def fit(self, ask):
         """The same, by the interface where its texts can't be words or a line."""
-        if ask.way in ("shell", "file") and any("\0" in it or it == "-" for it in ask.words if isinstance(it, str)):
+        words = [it for it in ask.words if isinstance(it, str)]
+        if ask.name == "create":
+            words += ask.words[3]
+        if ask.way in ("shell", "file") and any("\0" in it or it == "-" for it in words):
             ask.way = "http" if ask.way == "shell" else ask.way
             if ask.way == "file":
                 return None
@@ -308,6 +320,41 @@ class Plan:
                          choose.choice(["default", "nosuch"]), choose.choice([None, "standard", "nosuch"])]),
         ])())
 
+    def in_a_field(self, at, way):
+        """A hostile text in a field, by somebody who may fill it in, and the field; none where that way has no
+        such field."""
+        one, queue = self.one(self.live), self.choose.choice(list(QUEUES))
+        by = self.choose.choice([self.office.admin, self.helper(one.queue.name if one else queue)])
+        ask, field = hostile(self.choose, at, way, by, queue, one.number if one else 1)
+        return None if way in ("load", "file") and ask.way != way else self.fit(ask), field
+
+    def field(self, at):
+        ask, field = self.in_a_field(at, self.choose.choice(["page", "page", "http", "shell"]))
+        self.play(ask)
+        self.add("field", at, ask=ask.table(), field=field)
+
+    def tabs(self, at):
+        """Pages of several requests stand open in one browser, while others work on these. Their forms are sent
+        then, some of them twice."""
+        by, choose = self.helper(self.choose.choice(list(QUEUES))), self.choose
+        kinds = [self.answer, self.take, self.move, self.comment, self.file]
+        made = [choose.choice(kinds)(at, "page") for _ in range(4)]
+        asks = [it for it in made if it is not None and it.way == "page"]
+        between = []
+        for ask in asks:
+            ask.by = by
+            if ask.request() and choose.random() < 0.7:
+                one, way = self.desk.requests[ask.request() - 1], choose.choice(["page", "http", "shell"])
+                name = choose.choice(["take", "steal", "status", "correspond"])
+                more = {"status": [choose.choice(one.queue.lifecycle.statuses)], "correspond": ["meanwhile"]}
+                between += self.played(self.work(at, way, name, one, *more.get(name, [])))
+        asks += [copied(it) for it in asks if choose.random() < 0.25]
+        for ask in asks:
+            self.play(ask)
+        if asks:
+            self.add("tabs", at, asks=[it.table() for it in asks], between=[it.table() for it in between],
+                     signs_out=choose.random() < 0.3)
+
     # ---- what goes wrong
 
     def on_many(self, at, count, kinds=("create", "correspond", "take", "comment", "status")):
@@ -366,6 +413,11 @@ class Plan:
 
     def strange(self, at):
         self.add("strange", at, what=self.choose.randrange(1000), by=self.anyone())
+
+
+def copied(ask):
+    """The same form once more."""
+    return Ask(**{**ask.table(), "key": None})
 
 
 def moment_of(day, hour):

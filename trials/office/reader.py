@@ -1,5 +1,6 @@
 """What a page tells, read from its markup: the facts that models/pages.py tells by the rules, as the same
 plain values."""
+import re
 from html.parser import HTMLParser
 
 VOID = {"meta", "link", "input", "br", "hr", "img"}
@@ -72,6 +73,18 @@ def forms(top):
     return found
 
 
+def has_place(page, mark):
+    """Whether an address with that mark leads to a place of the page."""
+    return any(isinstance(it, Node) and it.marks.get("id") == mark for it in below(read(page)))
+
+
+def below(node):
+    for part in node.parts:
+        if isinstance(part, Node):
+            yield part
+            yield from below(part)
+
+
 def is_sign_in(top):
     return any(it.marks.get("name") == "token" for it in top.all("input"))
 
@@ -93,10 +106,16 @@ def rows(table):
     return [row_of(row) for row in table.one("tbody").all("tr")] if table else []
 
 
+def late_by(cell):
+    """For how long it has been late, if it is."""
+    told = cell.one("strong")
+    return told.text().removesuffix(" late") if told else ""
+
+
 def row_of(row):
     title, (number, queue, status, owner, due, last) = row.one("th"), list(row.all("td"))
     return [int(number.text()), title.one("a").raw(), [it.raw() for it in title.all("small")], queue.text(),
-            status.text(), owner.text(), moment(due), "late" in row.kinds, moment(last), whose(row)]
+            status.text(), owner.text(), moment(due), late_by(due), moment(last), whose(row)]
 
 
 def home(top):
@@ -124,20 +143,13 @@ def choices(top, name):
     return sorted(it.text() for it in select.all("option") if it.marks.get("value") != "")
 
 
-def find(top):
+def find(top, code=200):
     main = top.one("main")
-    count = next(it for it in main.all("p") if it.text().startswith("Found:")).text().split()[1]
+    if code == 400:
+        return {"no such search": not list(main.all("table", "list")) and main.one("p", "alert") is not None}
+    count = re.match(r"(?:\d+ to )?(?:\d+ of )?(\d+)", main.one("p", "paging").text())[1]
     later = any(it.marks.get("rel") == "next" for it in main.all("a"))
     return {"count": int(count), "rows": rows(main.one("table", "list")), "later": later}
-
-
-def late(top):
-    return {"rows": [[int(row.one("th").text()), *late_row(list(row.all("td"))), whose(row)]
-                     for row in top.one("table", "late").one("tbody").all("tr")]}
-
-
-def late_row(cells):
-    return [cells[0].text(), cells[1].text(), moment(cells[2]), cells[3].text()]
 
 
 def workload(top):
@@ -162,17 +174,32 @@ LINKS = {"Depends on", "Depended on by", "Member of", "Has members", "Refers to"
 
 def request(top):
     main = top.one("main")
-    change, heading = main.one("details", "change"), main.one("h1")
-    level = next(it for it in change.all("select") if it.marks.get("name") == "level")
+    heading = main.one("h1")
     return {
         "subject": "".join(it for it in heading.parts if isinstance(it, str))[1:],
         "queue": list(main.one("p", "crumb").all("a"))[1].text(),
         "facts": dict(map(fact, main.one("dl", "facts").all("div"))),
         "history": [entry(it) for it in main.one("ol", "history").all("li")],
-        "moves": moves(change), "closing": closing(main), "unfolded": "open" in change.marks,
-        "owner": owner_form(change), "owners": named(change, "owners"), "people": named(change, "people"),
-        "levels": choices(change, "level"),
-        "level": next((it.text() for it in level.all("option") if "selected" in it.marks), None)}
+        "writes": [it for it in ("reply", "comment") if it in actions(main.one("div", "write"))],
+        "closing": closing(main), "crosses": [it in actions(main.one("dl", "facts")) for it in ("unwatch", "unlink")],
+        "change": next((changed(it) for it in main.all("details", "change")), None)}
+
+
+def actions(part):
+    """The last words of the addresses to which forms of a part are sent."""
+    return [it.marks.get("action", "").rsplit("/", 1)[-1] for it in part.all("form")]
+
+
+def changed(change):
+    forms = actions(change)
+    level = next((it for it in change.all("select") if it.marks.get("name") == "level"), None)
+    options = list(level.all("option")) if level else []
+    return {
+        "moves": moves(change), "owner": next((it for it in forms if it in ("take", "untake", "steal")), None),
+        "give": "give" in forms, "watch": "watch" in forms, "link": "link" in forms,
+        "unfolded": "open" in change.marks, "owners": named(change, "owners"), "people": named(change, "people"),
+        "levels": choices(change, "level") if level else [],
+        "level": next((it.text() for it in options if "selected" in it.marks), None)}
 
 
 def fact(div):
@@ -202,11 +229,6 @@ def closing(main):
                  if it.marks.get("name") == "status"), None)
 
 
-def owner_form(change):
-    ends = [it.marks.get("action", "").rsplit("/", 1)[-1] for it in change.all("form")]
-    return next((it for it in ends if it in ("take", "untake", "steal")), None)
-
-
 def named(change, list_name):
     found = next(it for it in change.all("datalist") if it.marks.get("id") == list_name)
     return sorted({it.marks["value"] for it in found.all("option")})
@@ -223,7 +245,7 @@ def refused(top):
             **({"typed": area.raw().removeprefix("\n")} if area else {})}
 
 
-PAGES = {"home": home, "queue": find, "find": find, "late": late, "workload": workload, "new": new,
+PAGES = {"home": home, "queue": find, "find": find, "late": find, "workload": workload, "new": new,
          "request": request}
 
 
@@ -233,6 +255,8 @@ def facts_of(name, code, page):
         top = read(page)
         if is_sign_in(top):
             return {"refused": "sign in"}
+        if name == "find" and code == 400:
+            return find(top, code)
         return PAGES[name](top) if code == 200 else refused(top)
     except (AttributeError, IndexError, KeyError, StopIteration, TypeError, ValueError) as error:
         return {"no such page": repr(error), "begins": page[:200]}

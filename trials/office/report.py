@@ -32,16 +32,18 @@ def table(head, rows):
 
 
 def kinds(figures):
-    """Each command and reading, how often it was done and how often refused."""
+    """Each command and reading: how often it was done by each way, and how often it was refused, by the refusals."""
     done, refused = collections.Counter(), collections.defaultdict(collections.Counter)
-    for (_, name, code), count in figures.answers.items():
+    for (way, name, code), count in figures.answers.items():
         if code == "done":
-            done[name] += count
+            done[name, way] += count
         else:
-            refused[name][code] += count
-    for name in sorted({*done, *refused}):
-        told_of = ", ".join(f"{code} {count}" for code, count in sorted(refused[name].items()))
-        yield f"`{name}`", done[name], told_of or "–"
+            refused[name][way] += count
+            refused[name, "by"][code] += count
+    for name in sorted({name for _, name, _ in figures.answers}):
+        cells = [f"{done[name, way]} / {refused[name][way]}" for way in WAYS]
+        told_of = ", ".join(f"{code} {count}" for code, count in sorted(refused[name, "by"].items()))
+        yield f"`{name}`", *("–" if it == "0 / 0" else it for it in cells), told_of or "–"
 
 
 def ways(figures):
@@ -69,7 +71,7 @@ def page(trial, given, seconds):
     last, (own, others) = figures.nights[-1], processor_minutes()
     return "\n\n".join([
         "# A year of an office",
-        f"`trials/year --seed {given.seed} --days {given.days} --bench` writes this page. It ran {len(figures.nights)} working "
+        f"`trials/year --seed {given.seed} --days {len(figures.nights)} --bench` writes this page. It ran {len(figures.nights)} working "
         f"days of an office of fifty, from {day_of(figures.nights[0][0])} to {day_of(last[0])} by its own clock, on "
         f"{given.build}. What it does stands in [its head](../trials/year), and [words](../docs/words.md) has the words.",
         f"It took {seconds / 60:.1f} minutes on {len(os.sched_getaffinity(0))} processors, beside other work: the load of the "
@@ -80,8 +82,11 @@ def page(trial, given, seconds):
         + ", ".join(f"{count} {name}" for name, count in sorted(figures.compared.items()))
         + f". Nothing differed. At its end there were {last[1]} requests.",
         "## What was asked", table(("By", "Done", "Refused"), ways(figures)),
-        table(("What", "Done", "Refused"), kinds(figures)),
-        "`find` is a search on a page. A form that was answered by a page of its own counts once.",
+        "Of each kind and way, how often it was done / refused, and by which refusals:",
+        table(("What", "Pages", "Interface", "`desk_ask`", "`desk`", "`desk_load`", "Refused by"), kinds(figures)),
+        "`find` is a search on a page. A form that was answered by a page of its own counts once. Hostile texts "
+        f"stood in {len(figures.fields)} fields, each field of a way counted.",
+        "![Answers by the hour of the day](year-answers.svg)",
         "## Who was signed in", table(("In a browser", "How often"), sorted(figures.sessions.items())),
         "A quarter of the people tick the box that keeps them signed in, a quarter close the browser in the evening, a "
         "quarter sign out then, and the others leave it open. Each cookie was compared, and each page to sign in came "
@@ -94,7 +99,7 @@ def page(trial, given, seconds):
               ((way, count, f"{middle:.2f}", f"{most:.0f}") for way, count, middle, most in figures.middles())),
         "These are times of the clock as a client sees them, with the start of a process for `desk`, `desk_ask` and "
         "`desk_load`, on tables in memory: no disk was waited for. A line of `desk_load` is a share of its run.",
-        "![Answers by hour](year-hours.svg)",
+        "![How long answers take by the hour](year-hours.svg)",
         "## How it grew",
         table(("Night of", "Requests", "Memory, MiB", "File, MiB", "Log, MiB", "Home, ms"), growth(figures)),
         "Home is the first page of the one who sees all.",
@@ -103,8 +108,13 @@ def page(trial, given, seconds):
 
 def pictures(figures):
     hours = sorted(figures.by_hour.items())
+    groups = sorted({group for group, _ in figures.asked_by_hour})
+    yield "year-answers.svg", picture(
+        "Answers by the hour of the day", "", "the hour of the day, UTC",
+        {group: [(hour, figures.asked_by_hour[group, hour]) for hour, _ in hours] for group in groups},
+        [(hour, hour) for hour, _ in hours])
     yield "year-hours.svg", picture(
-        "Answers by the hour", "ms", "the hour of the day, UTC",
+        "How long answers take by the hour", "ms", "the hour of the day, UTC",
         {"the middle": [(hour, 1000 * statistics.median(it)) for hour, it in hours],
          "one in a hundred takes longer": [(hour, 1000 * sorted(it)[len(it) * 99 // 100]) for hour, it in hours]},
         [(hour, hour) for hour, _ in hours])

@@ -6,13 +6,15 @@ import statistics
 import time
 from concurrent.futures import ThreadPoolExecutor
 
-from office import expected, faults, kept, strange
-from office.asks import PAGES, Ask, form, numbered, spelled
+from office import expected, faults, kept, strange, tabs
+from office.asks import PAGES, Ask, form, form_page, numbered, spelled
 from office.browser import Browser, hidden_of
 from office.crowd import Crowd
 from office.differs import Differs
 from office.figures import Figures, outcome
+from office.hidden import Subjects
 from office.known import Desk, Known
+from office.reader import has_place
 from office.server import Programs, Server
 from office.settle import in_some_order, number_filed, wanted
 from office.ways import CUT, SLOW, SPENT, Messages, Shell
@@ -25,17 +27,19 @@ class Trial:
     def __init__(self, bins, room, crowd=True):
         self.programs = Programs(bins, room)
         self.server = Server(self.programs)
-        self.desk, self.tokens, self.numbers = None, {}, {}
+        self.desk, self.subjects, self.tokens, self.numbers = None, None, {}, {}
         self.figures, self.crowd, self.wants_crowd = Figures(), None, crowd
         CUT.clear()
         self.browser, self.messages, self.shell = Browser(self.programs.clock), None, None
         self.pool = ThreadPoolExecutor(SIDE_BY_SIDE)
 
-    def run(self, steps):
-        """The place of the first step that differs, and what differs; or None."""
+    def run(self, steps, until=float("inf")):
+        """The place of the first step that differs, and what differs; or None. No day begins after that moment."""
         place = None
         try:
             for place, step in enumerate(steps):
+                if steps[place - 1]["do"] == "night" and time.monotonic() > until:
+                    break
                 self.programs.clock.set(step["at"])
                 getattr(self, "do_" + step["do"])(**{name: it for name, it in step.items() if name != "do"})
         except Differs as what:
@@ -98,6 +102,7 @@ class Trial:
             self.programs.write(f"{person}.token", word)
         if self.desk is None:
             self.desk = Desk(known)
+            self.subjects = Subjects(self.desk)
         else:
             self.desk.with_settings(known)
             self.figures.faults["settings changed"] += 1
@@ -107,9 +112,17 @@ class Trial:
         self.up()
         self.one(numbered(Ask.of(ask), self.numbers))
 
+    def do_field(self, at, ask, field):
+        self.do_ask(at, ask)
+        self.figures.fields.add((ask["way"], ask["name"], field))
+        self.figures.faults["hostile texts in a field"] += 1
+
     def one(self, ask):
-        """One ask, its answer and the model's."""
-        hidden = self.form_page(ask) if ask.way == "page" and not ask.reads else None
+        """One ask, its answer and the model's. Of a form its page is looked at before."""
+        self.sent(ask, self.form_page(ask) if ask.way == "page" and not ask.reads else None)
+
+    def sent(self, ask, hidden):
+        """One ask; of a form, with the hidden fields of the page on which it stands."""
         answer = self.answer(ask, hidden)
         seconds = SPENT.seconds
         if answer is None and seconds >= SLOW:
@@ -118,11 +131,20 @@ class Trial:
             return
         told = self.told(ask)
         self.need(f"{ask}", answer, told)
+        if ask.way == "page":
+            self.hides(ask.by, ask.words)
         self.figures.answered(ask, outcome(answer), seconds)
         if ask.name == "create" and number_filed(answer) and ask.key:
             self.numbers[ask.key] = number_filed(answer)
-        if ask.way == "page" and answer[0] == 303 and answer[1] != "/":
-            self.page(ask, "request", answer[1], int(answer[1].rpartition("/")[2]))
+        if ask.way == "page" and answer[0] == 303:
+            self.led(ask, *answer[1].partition("#")[::2])
+
+    def led(self, ask, path, mark):
+        """The page to which a form led, and the place on it."""
+        if path != "/":
+            page = self.page(ask, "request", path, int(path.rpartition("/")[2]))
+            is_there = not page or page[0] != 200 or has_place(self.browser.last.text(), mark)
+            self.need(f"the place {mark} on {path}", is_there, True)
 
     def answer(self, ask, hidden=None):
         if ask.way == "page":
@@ -132,8 +154,7 @@ class Trial:
     def told(self, ask):
         """What the model answers. It makes the step."""
         if ask.way == "page" and ask.reads:
-            words = [expected.search_of(ask.words[0])] if ask.name == "find" else ask.words
-            return expected.by_page(self.desk, ask, PAGES[ask.name], *words)
+            return expected.by_page(self.desk, ask, PAGES[ask.name], *ask.words)
         return wanted(self.desk, ask)
 
     def page(self, ask, name, path, *words):
@@ -142,19 +163,20 @@ class Trial:
         self.figures.timed("page (read)", ask.at, SPENT.seconds)
         self.need(f"{path} for {ask.by} at {ask.at}", given, expected.by_page(self.desk, ask, name, *words))
         self.figures.compared["pages"] += 1
+        self.hides(ask.by)
         return given
 
+    def hides(self, by, typed=()):
+        """The page that was shown last tells no subject that its reader may not see, but for what was typed."""
+        page = self.browser.last.text() if self.browser.last else ""
+        told = [it for it in self.subjects.hidden(by, page) if it not in typed]
+        self.need(f"hidden from {by}, but on the page", told, [])
+
     def form_page(self, ask):
-        """The page on which the form stands is looked at before, and its hidden fields go with the form."""
-        path, _ = form(ask)
-        if ask.name == "queue":
-            page, name, words = "/", "home", []
-        elif ask.name == "create":
-            page, name, words = path, "new", [ask.words[0]]
-        else:
-            page, name, words = path.rpartition("/")[0], "request", [ask.words[0]]
-        self.page(ask, name, page, *words)
-        return hidden_of(self.browser.last, path)
+        """The page on which the form stands is looked at, and its hidden fields go with the form."""
+        path, name, words = form_page(ask)
+        self.page(ask, name, path, *words)
+        return hidden_of(self.browser.last, form(ask)[0])
 
     # ---- many at once
 
@@ -208,6 +230,11 @@ class Trial:
             self.need(f"in a burst: {ask}", answer, self.told(ask))
             self.figures.answers[ask.way, ask.name, outcome(answer)] += 1
         self.figures.faults["bursts"] += 1
+
+    def do_tabs(self, at, asks, between, signs_out):
+        self.up()
+        asks, between = ([numbered(Ask.of(it), self.numbers) for it in some] for some in (asks, between))
+        tabs.several(self, asks, between, signs_out)
 
     def do_strange(self, at, what, by):
         self.up()

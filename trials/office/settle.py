@@ -1,6 +1,7 @@
 """What was done of several asks at once, where some of them may have had no answer. The model tries what
 can have been: commands in another order, or done and not done, and never half."""
 import itertools
+import re
 
 from office import expected, kept
 from office.asks import commands, words_of
@@ -54,8 +55,8 @@ def number_filed(answer):
     if answer is None:
         return None
     text = next((it if isinstance(it, str) else it.get("back") or "" for it in answer if not isinstance(it, int)), "")
-    word = text.strip("\n").replace("/", " ").split(" ")
-    return int(word[-1]) if word[-1].isdigit() and ("request" in word or "requests" in word) else None
+    found = re.fullmatch("(?:request |/desk/requests/)([0-9]+)(?:#reply)?\n?", text)
+    return int(found[1]) if found else None
 
 
 def in_some_order(desk, asks, answers, there):

@@ -2,6 +2,7 @@
 statuses are added, limits change. Names in the tables stay."""
 import copy
 import datetime
+import random
 
 NAMES = """ada amir anna arne astrid bela ben bob carla cid clara dan dora edda elsa emil eva fadi finn
     frida georg gita gus hanna hugo ida ilse ines ivan jan jana jonas julia kai karl kira lars lea leo
@@ -9,6 +10,8 @@ NAMES = """ada amir anna arne astrid bela ben bob carla cid clara dan dora edda 
     sara sofia sven tara theo timo tom uma urs vera veit vito walt wanda wim xenia yara yann zoe
     zita alma bodo cora dirk enno fee gero hedi irma jost""".split()
 PEOPLE = 50
+# one person in so many has another token after a night of changes, and so is signed out
+TOKENS = 7
 HELP = ["ShowTicket", "ShowTicketComments", "ModifyTicket", "ReplyToTicket", "CommentOnTicket",
         "OwnTicket", "TakeTicket", "StealTicket"]
 # each queue with its lifecycle, its level and the group that works on it
@@ -40,13 +43,15 @@ ADDED = [("escalated", "incident", ["triage", "fixing"], ["fixing", "watching"])
          ("returned", "purchase", ["ordered"], ["ordered"]), ("vendor", "incident", ["fixing"], ["fixing"])]
 WEEK = ("mon", "tue", "wed", "thu", "fri")
 HOLIDAYS = ["01-01", "01-06", "04-03", "04-06", "05-01", "05-14", "10-03", "12-24", "12-25", "12-31"]
+# the clocks change on a Sunday in the small hours, when somebody watches over the machines
+CHANGE = ["00:00-06:00"]
 CALENDARS = {
     "north": {"years": [2025, 2028], "rule": "CET-1CEST,M3.5.0,M10.5.0/3",
               "holidays": [f"{year}-{day}" for year in (2026, 2027) for day in HOLIDAYS],
-              **{day: ["08:00-12:00", "13:00-17:30"] for day in WEEK}},
+              **{day: ["08:00-12:00", "13:00-17:30"] for day in WEEK}, "sun": CHANGE},
     "south": {"years": [2025, 2028], "rule": "AEST-10AEDT,M10.1.0,M4.1.0/3",
               "holidays": ["2026-01-26", "2026-04-25", "2026-12-25"],
-              **{day: ["07:00-19:00"] for day in WEEK}, "sat": ["09:00-12:00"]}}
+              **{day: ["07:00-19:00"] for day in WEEK}, "sat": ["09:00-12:00"], "sun": CHANGE}}
 
 
 class Office:
@@ -77,6 +82,7 @@ class Office:
         new.leave(choose)
         new.come(choose)
         new.tokens[choose.choice(new.present())] = token(choose)
+        new.tokens |= {name: token(random.Random(f"{name} {new.text()}")) for name in new.present()[::TOKENS]}
         new.levels = levels(choose)
         if new.added < len(ADDED):
             new.add_status(*ADDED[new.added])

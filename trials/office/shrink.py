@@ -37,7 +37,7 @@ def is_queue(step):
 
 
 def asks_in(step):
-    return [step["ask"]] if "ask" in step else step.get("asks", [])
+    return [step["ask"]] if "ask" in step else step.get("asks", []) + step.get("between", [])
 
 
 def numbers_in(step):
@@ -63,8 +63,9 @@ def without(steps, size, differs):
 def inside(steps, differs):
     """The same with fewer asks in those steps that have several."""
     for place, step in enumerate(steps):
-        for ask in list(step.get("asks", [])):
-            fewer = {**step, "asks": [it for it in step["asks"] if it is not ask]}
-            if fewer["asks"] and differs([*steps[:place], fewer, *steps[place + 1:]]) is not None:
-                steps, step = [*steps[:place], fewer, *steps[place + 1:]], fewer
+        for name in ("between", "asks"):
+            for ask in list(step.get(name, [])):
+                fewer = {**step, name: [it for it in step[name] if it is not ask]}
+                if fewer["asks"] and differs([*steps[:place], fewer, *steps[place + 1:]]) is not None:
+                    steps, step = [*steps[:place], fewer, *steps[place + 1:]], fewer
     return steps

@@ -9,7 +9,7 @@ pub fn name_of(ending: Result<Ending, AllocError>) -> &'static str {
         Ok(Ending::Counted) => "counted",
         Ok(Ending::Network) => "network",
         Ok(Ending::Shut) => "shut",
-        Ok(Ending::Spent) => "spent",
+        Ok(Ending::OutOfTurns) => "spent",
         Err(_) => "out of memory",
     }
 }

@@ -3,7 +3,7 @@
 use crate::client::Client;
 use crate::echo::echo_of;
 use crate::stream::FakeStream;
-use server_core::{Host, Mark, NetFault};
+use server_core::{Host, NetFault, Readiness};
 use std::alloc::Global;
 use std::io::{Read, Write};
 use std::{io, str};
@@ -171,7 +171,7 @@ impl<'r, R: Print> FakeHost<'r, R> {
     }
 
     /// Clients that pause go on, if it is time for it.
-    fn go_on(&mut self, marks: &mut [Mark]) {
+    fn go_on(&mut self, marks: &mut [Readiness]) {
         if self.now < self.beats_at {
             return;
         }
@@ -203,7 +203,7 @@ impl<'r, R: Print> FakeHost<'r, R> {
     }
 
     /// So many milliseconds pass, unless something happens. Whether a client has come since.
-    fn pass(&mut self, milliseconds: u64, marks: &mut [Mark]) -> bool {
+    fn pass(&mut self, milliseconds: u64, marks: &mut [Readiness]) -> bool {
         self.now = self.next_moment(milliseconds);
         let (jumps, moment) = self.weather.jump;
         if self.waits == jumps {
@@ -278,7 +278,7 @@ impl<'r, R: Print> Host for FakeHost<'r, R> {
         self.now
     }
 
-    fn wait(&mut self, milliseconds: u64, marks: &mut [Mark]) -> Result<bool, NetFault> {
+    fn wait(&mut self, milliseconds: u64, marks: &mut [Readiness]) -> Result<bool, NetFault> {
         if self.now >= LASTS {
             self.wait_failed = true;
             return Err(NetFault);

@@ -1,1 +1,5 @@
-pub mod FirstBad
+pub mod BadRows
+pub mod KindLemmas
+pub mod Searching
+pub mod Telling
+pub mod Unread

@@ -1,2 +1,6 @@
+pub mod BadRows
+pub mod Columns
+pub mod Files
 pub mod Rows
 pub mod Tables
+pub mod Words

@@ -1,47 +1,37 @@
 -- What is wrong with the tables of a desk, as settings are attached to them.
-use Rattle.std.specs.Prelude.{◌≡◌, ◌⊎◌, IfOk, List, [], ◌∷◌, Option, None, Some, Result, true}
-use Rattle.sqlite.specs.Effect.{Database}
+use Rattle.std.specs.Prelude.{◌≡◌, ◌⊎◌, Err, None, Option, Some, Result, true, ⊤}
 use Rattle.sqlite.specs.State.{State, HasCleanDisk}
 use Rattle.settings_core.specs.declared.settings.Settings.{Settings}
-use Rattle.store_tables.specs.Calls.{AreThere}
-use Rattle.store_tables.specs.Contents.{HasBadRow}
-use Rattle.store_tables.specs.Contents.Entry.{IsBareEntry, bare_shown, entry}
-use Rattle.store_tables.specs.Contents.Link.{IsLinkRow, link}
-use Rattle.store_tables.specs.Contents.Queue.{IsQueueRow, queue, queue_shown}
-use Rattle.store_tables.specs.Contents.Request.{IsDatedRow, dated_shown_terms, request}
-use Rattle.store_tables.specs.Contents.Stay.{IsStayRow, stay, stay_shown}
-use Rattle.store_tables.specs.Contents.Watcher.{IsWatcherRow, watcher}
-use Rattle.store_tables.specs.Query.{three_shown}
+use Rattle.desk_model.specs.Desk.{Desk}
+use Rattle.desk_model.specs.IsDesk.{IsDesk}
+use Rattle.desk_model.specs.Known.{is_known}
+use Rattle.store_tables.specs.Readings.{MismatchMeansBadRow}
+use Rattle.store_tables.specs.Stands.{Represents}
 use Rattle.store_tables.specs.declared.fault.StoreFault.{StoreFault}
-use Rattle.service_core.specs.Attaching.{TellsKnown, TestsRows}
-use Rattle.check_core.specs.declared.bad_rows.Table.{Table}
-use Rattle.check_core.specs.declared.bad_rows.Table.TheVariants as table
+use Rattle.store_tables.specs.declared.fault.StoreFault.TheVariants.{Refused}
+use Rattle.service_core.specs.Attaching.{LacksName, TellsKnown, AllRowsValid}
+use Rattle.check_core.specs.declared.tables.Wrong.{Wrong}
+use Rattle.check_core.specs.declared.tables.Wrong.TheVariants as wrong
 
 -- each row that attaching tests is good, and the settings know each name of the tables
 pub record NothingIsWrong (settings : Settings) (old new : State) : Type 0 where
-  pub tested : TestsRows old new
+  pub tested : AllRowsValid old new
   pub known : TellsKnown settings old new true
 
--- a row of the table is no value of its type; of an entry its texts aren't looked at
-abbrev pub HasBad : Table → Database → Type 0
-HasBad table.Request db = HasBadRow request.tree dated_shown_terms IsDatedRow db
-HasBad table.Queue db = HasBadRow queue.tree queue_shown IsQueueRow db
-HasBad table.Stay db = HasBadRow stay.tree stay_shown IsStayRow db
-HasBad table.Link db = HasBadRow link.tree three_shown IsLinkRow db
-HasBad table.Entry db = HasBadRow entry.tree bare_shown IsBareEntry db
-HasBad table.Watcher db = HasBadRow watcher.tree three_shown IsWatcherRow db
+-- a fault of the store, which blames a row only where one is bad
+abbrev pub BlamesOnly : State → State → StoreFault → Type 0
+BlamesOnly old new fault = let r : Result ⊤ StoreFault = Err fault in MismatchMeansBadRow old new r
 
--- in the order in which attaching reads them
-abbrev pub tested_tables : List Table
-tested_tables =
-    table.Request ∷ table.Queue ∷ table.Stay ∷ table.Link ∷ table.Entry ∷ table.Watcher ∷ []
+-- nothing; a name that the settings lack, where each row is good; or a row, or what the store refuses
+abbrev pub IsWrong : Settings → State → State → Option Wrong → Type 0
+IsWrong settings old new None = NothingIsWrong settings old new
+IsWrong settings old new (Some (wrong.Name told)) = LacksName settings old new
+IsWrong settings old new (Some (wrong.Rows fault)) = BlamesOnly old new fault
+IsWrong settings old new (Some other) = ⊥
 
--- the first of these tables that has a bad row, or none where none has
-abbrev pub IsFirst : List Table → Option Table → Database → Type 0
-IsFirst [] found db = found ≡ None
-IsFirst (t ∷ ts) found db = ((found ≡ Some t) × HasBad t db) ⊎ ((¬ HasBad t db) × IsFirst ts found db)
-
--- where the tables are there, it is the first that had one
-abbrev pub FindsFirst : List Table → State → State → Result (Option Table) StoreFault → Type 0
-FindsFirst ts old new result =
-    AreThere old → HasCleanDisk new → IfOk result (λ found. IsFirst ts found old.now)
+-- of the tables of a desk whose names the settings know nothing is wrong, unless the store or memory
+-- refuses to read them
+abbrev pub BeginsOver : Settings → State → State → Option Wrong → Type 0
+BeginsOver settings old new found =
+    (desk : Desk) → IsDesk desk → Represents desk old → is_known settings desk ≡ true
+    → HasCleanDisk new → (found ≡ None) ⊎ (found ≡ Some (wrong.Rows Refused))

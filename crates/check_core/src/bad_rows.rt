@@ -1,152 +1,192 @@
-//! The first table that has a row that is no value of its type.
+//! The first row of the tables that is no value of its type.
 
-ghost use Rattle.std.specs.Prelude.{◌≡◌, ◌∷◌, [], IfOk, Some};
-ghost use Rattle.store_tables.specs.Calls.{Spares};
-ghost use Rattle.store_core.specs.Seen.{state_of};
-ghost use Rattle.check_core.specs.Tables.{FindsFirst, tested_tables};
-ghost use Rattle.check_core.specs.declared.bad_rows.Table.TheVariants as table;
+ghost use Rattle.std.specs.Prelude.{◌≡◌, ◌≤◌, [], Decides, IfOk, IfSome, None};
+ghost use Rattle.std.specs.Option.{option_map};
+ghost use Rattle.std.specs.Str.{IsUtf8};
+ghost use Rattle.sqlite.specs.Order.{column};
+ghost use Rattle.sqlite.specs.declared.types.Value.TheVariants.{Null};
+ghost use Rattle.sqlite.specs.State.{HasCleanDisk, Shown};
+ghost use Rattle.sqlite_value.specs.Value.{owned};
+ghost use Rattle.store_tables.specs.Calls.{Leaves, LeavesTables};
+ghost use Rattle.store_tables.specs.Seen.{seen};
+ghost use Rattle.store_tables.specs.Values.{IsCount, IsMinute, IsText, count_value};
+ghost use Rattle.check_core.specs.BadRows.{Finds, IsBadOf, IsFirst, IsFirstRow, IsMisfit};
+ghost use Rattle.check_core.specs.Columns.{IsOf, IsWithin};
+ghost use Rattle.check_core.specs.Columns as columns;
 
-use std::alloc::Global;
-use std::fmt;
-use store_core::{Backend, Store, StoreFault};
+use crate::columns::{Kind, Table, kinds_of, statement_of};
+use hours_core::Minute;
+use sqlite::types::ValueRef;
+use sqlite::{Alter, Row};
+use std::alloc::AllocError;
+use store_tables::{StoreFault, Tables};
 
-/// A table whose rows are tested before settings are attached, in the order of the tests.
-#[derive(Clone, Copy)]
-pub enum Table {
-    Request,
-    Queue,
-    Stay,
-    Link,
-    Entry,
-    Watcher,
+/// A row that is no value of its type: of its table's columns those that are tested, and which is
+/// the first that has a value of another kind, from 0.
+#[derive(Drop)]
+pub struct BadRow {
+    pub table: Table,
+    pub row: Row,
+    pub at: usize,
 }
 
-impl fmt::Display for Table {
-    fn fmt<W: fmt::Write>(&self, f: &mut fmt::Formatter<W>) -> fmt::Result {
-        f.write_str(match self {
-            Table::Request => "request",
-            Table::Queue => "queue",
-            Table::Stay => "stay",
-            Table::Link => "link",
-            Table::Entry => "entry",
-            Table::Watcher => "watcher",
-        })
-    }
-}
-
-/// The first table, in the order in which they are tested, that has a row that is no value of its
-/// type, if one has. `Refused` where the store or memory refuses a reading. The tables stay as they
-/// are.
-#[tactic(auto, using(store_tables::proofs::Spared::joined))]
-pub fn bad_table<S: Backend>(
-    alloc: Global,
-    store: &mut Store<S>,
-) -> Result<Option<Table>, StoreFault>
-    ensures first { FindsFirst tested_tables
-        (state_of S.Store store.old) (state_of S.Store store.new) result }
-    ensures kept { Spares (state_of S.Store store.old) (state_of S.Store store.new) }
+/// The first row, by its key, of the first of these tables, that is no value of its type, if one is.
+/// `Refused` where the store or memory refuses it. The tables stay as they are.
+#[tactic(auto, using(store_tables::proofs::Spared::joined, store_tables::proofs::Spared::unread))]
+pub fn bad_row<S: Alter>(
+    tables: &mut Tables<S>,
+    tested: &[Table],
+) -> Result<Option<BadRow>, StoreFault>
+    ensures first { Finds (λ found db. IsFirst tested.now
+        (option_map (λ bad. (bad.table, (bad.row, bad.at))) found) db)
+        (seen S.Store tables.old) (seen S.Store tables.new) result }
+    ensures kept { LeavesTables (seen S.Store tables.old) (seen S.Store tables.new) }
 {
-    match store.dated_requests(alloc) {
-        Ok(rows) => {
-            drop(rows);
-            bad_from_queues(alloc, store)
+    for table in tested {
+        let found = bad_of(tables, *table)?;
+        match found {
+            Some((row, at)) => return Ok(Some(BadRow {
+                table: *table,
+                row,
+                at,
+            })),
+            None => {}
         }
-        Err(fault) => found_by(Table::Request, fault),
+    }
+    Ok(None)
+}
+
+/// The first bad row of a table, and where it has a value of another kind.
+fn bad_of<S: Alter>(
+    tables: &mut Tables<S>,
+    table: Table,
+) -> Result<Option<(Row, usize)>, StoreFault>
+    ensures first { Finds (IsBadOf table)
+        (seen S.Store tables.old) (seen S.Store tables.new) result }
+    ensures kept { LeavesTables (seen S.Store tables.old) (seen S.Store tables.new) }
+{
+    let rows = rows_of(tables, table)?;
+    match bad_among(kinds_of(table), rows.as_slice()) {
+        Ok(found) => Ok(found),
+        Err(_) => Err(StoreFault::Refused),
     }
 }
 
-#[tactic(auto, using(store_tables::proofs::Spared::joined))]
-fn bad_from_queues<S: Backend>(
-    alloc: Global,
-    store: &mut Store<S>,
-) -> Result<Option<Table>, StoreFault>
-    ensures first { FindsFirst (table.Queue ∷ table.Stay ∷ table.Link ∷ table.Entry ∷ table.Watcher ∷ [])
-        (state_of S.Store store.old) (state_of S.Store store.new) result }
-    ensures kept { Spares (state_of S.Store store.old) (state_of S.Store store.new) }
+/// What is tested of each row of a table.
+fn rows_of<S: Alter>(tables: &mut Tables<S>, table: Table) -> Result<Vec<Row>, StoreFault>
+    ensures shown { HasCleanDisk (seen S.Store tables.new) → IfOk result (λ rows.
+        Shown (columns.statement_of table) [] (seen S.Store tables.old) (seen S.Store tables.new)
+        rows.items) }
+    ensures leaves { Leaves (seen S.Store tables.old) (seen S.Store tables.new) result }
 {
-    match store.queues(alloc) {
-        Ok(rows) => {
-            drop(rows);
-            bad_from_stays(alloc, store)
+    match tables.conn.query_all(statement_of(table), &[]) {
+        Ok(rows) => Ok(rows),
+        Err(_) => Err(StoreFault::Refused),
+    }
+}
+
+/// The first of these rows with a value of another kind, and where it has it.
+fn bad_among(kinds: &[Kind], rows: &[Row]) -> Result<Option<(Row, usize)>, AllocError>
+    ensures { IfOk result (IsFirstRow kinds.now rows.now) }
+{
+    for row in rows {
+        match misfit(kinds, row) {
+            Some(at) => return Ok(Some((row.copy()?, at))),
+            None => {}
         }
-        Err(fault) => found_by(Table::Queue, fault),
     }
+    Ok(None)
 }
 
-#[tactic(auto, using(store_tables::proofs::Spared::joined))]
-fn bad_from_stays<S: Backend>(
-    alloc: Global,
-    store: &mut Store<S>,
-) -> Result<Option<Table>, StoreFault>
-    ensures first { FindsFirst (table.Stay ∷ table.Link ∷ table.Entry ∷ table.Watcher ∷ [])
-        (state_of S.Store store.old) (state_of S.Store store.new) result }
-    ensures kept { Spares (state_of S.Store store.old) (state_of S.Store store.new) }
+/// Where a row has the first value that is of another kind than its column.
+fn misfit(kinds: &[Kind], row: &Row) -> Option<usize>
+    ensures { IsMisfit kinds.now 0 row.now result }
 {
-    match store.stays(alloc) {
-        Ok(rows) => {
-            drop(rows);
-            bad_from_links(alloc, store)
+    let mut at = 0;
+    for kind in kinds {
+        if !is_at(*kind, row, at) {
+            return Some(at);
         }
-        Err(fault) => found_by(Table::Stay, fault),
+        at += 1;
+    }
+    None
+}
+
+/// Whether the value in a column is of this kind.
+fn is_at(kind: Kind, row: &Row, at: usize) -> bool
+    ensures { Decides result (IsOf kind (column row.now at)) }
+{
+    match row.get_ref(at) {
+        Ok(value) => is_of(kind, value),
+        Err(_) => is_of(kind, ValueRef::Null),
     }
 }
 
-#[tactic(auto, using(store_tables::proofs::Spared::joined))]
-fn bad_from_links<S: Backend>(
-    alloc: Global,
-    store: &mut Store<S>,
-) -> Result<Option<Table>, StoreFault>
-    ensures first { FindsFirst (table.Link ∷ table.Entry ∷ table.Watcher ∷ [])
-        (state_of S.Store store.old) (state_of S.Store store.new) result }
-    ensures kept { Spares (state_of S.Store store.old) (state_of S.Store store.new) }
+/// Whether a value is of this kind.
+fn is_of(kind: Kind, value: ValueRef<'_>) -> bool
+    ensures { Decides result (IsOf kind (owned value.entry)) }
 {
-    match store.links(alloc) {
-        Ok(rows) => {
-            drop(rows);
-            bad_from_entries(alloc, store)
-        }
-        Err(fault) => found_by(Table::Link, fault),
+    match kind {
+        Kind::Text => is_text(value),
+        Kind::TextOrNone => is_null(value) || is_text(value),
+        Kind::Minute => is_minute(value),
+        Kind::MinuteOrNone => is_null(value) || is_minute(value),
+        Kind::Number(low, high) => is_within(low, high, value),
     }
 }
 
-#[tactic(auto, using(store_tables::proofs::Spared::joined))]
-fn bad_from_entries<S: Backend>(
-    alloc: Global,
-    store: &mut Store<S>,
-) -> Result<Option<Table>, StoreFault>
-    ensures first { FindsFirst (table.Entry ∷ table.Watcher ∷ [])
-        (state_of S.Store store.old) (state_of S.Store store.new) result }
-    ensures kept { Spares (state_of S.Store store.old) (state_of S.Store store.new) }
+fn is_null(value: ValueRef<'_>) -> bool
+    ensures { Decides result (owned value.entry ≡ Null) }
 {
-    match store.actors(alloc) {
-        Ok(rows) => {
-            drop(rows);
-            bad_watchers(alloc, store)
-        }
-        Err(fault) => found_by(Table::Entry, fault),
+    match value {
+        ValueRef::Null => true,
+        _ => false,
     }
 }
 
-fn bad_watchers<S: Backend>(
-    alloc: Global,
-    store: &mut Store<S>,
-) -> Result<Option<Table>, StoreFault>
-    ensures first { FindsFirst (table.Watcher ∷ [])
-        (state_of S.Store store.old) (state_of S.Store store.new) result }
-    ensures kept { Spares (state_of S.Store store.old) (state_of S.Store store.new) }
+fn is_text(value: ValueRef<'_>) -> bool
+    ensures { Decides result (IsText (owned value.entry)) }
 {
-    match store.watchers(alloc) {
-        Ok(_) => Ok(None),
-        Err(fault) => found_by(Table::Watcher, fault),
+    match value {
+        ValueRef::Text(bytes) => is_utf8(bytes),
+        _ => false,
     }
 }
 
-/// The table, where its reading failed since a row is no value of its type.
-fn found_by(table: Table, fault: StoreFault) -> Result<Option<Table>, StoreFault>
-    ensures { IfOk result (λ found. (fault ≡ StoreFault.Mismatch) × (found ≡ Some table)) }
+fn is_utf8(bytes: &[u8]) -> bool
+    ensures { Decides result (IsUtf8 bytes.now) }
 {
-    match fault {
-        StoreFault::Mismatch => Ok(Some(table)),
-        _ => Err(fault),
+    match std::str::from_utf8(bytes) {
+        Ok(_) => true,
+        Err(_) => false,
+    }
+}
+
+fn is_minute(value: ValueRef<'_>) -> bool
+    ensures { Decides result (IsMinute (owned value.entry)) }
+{
+    match number_of(value) {
+        Some(number) => Minute::new(number).is_some(),
+        None => false,
+    }
+}
+
+fn is_within(low: u32, high: u32, value: ValueRef<'_>) -> bool
+    ensures { Decides result (IsWithin low high (owned value.entry)) }
+{
+    match number_of(value) {
+        Some(number) => low <= number && number <= high,
+        None => false,
+    }
+}
+
+/// The number that a value is, if it is one of 32 bits.
+fn number_of(value: ValueRef<'_>) -> Option<u32>
+    ensures is { IfSome result (λ n. owned value.entry ≡ count_value n) }
+    ensures none { result ≡ None → ¬ IsCount (owned value.entry) }
+{
+    match value {
+        ValueRef::Int(number) => u32::try_from(number).ok(),
+        _ => None,
     }
 }

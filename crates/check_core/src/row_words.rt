@@ -1,9 +1,15 @@
 //! A name of the tables that settings don't know, in words for people.
 
+ghost use Rattle.std.specs.Prelude.{Some};
+ghost use Rattle.check_core.specs.Rows.{seen, seen_row};
+ghost use Rattle.check_core.specs.Words as spec;
+
 use crate::rows::{Row, Unknown, What};
 use std::fmt;
 
 impl fmt::Display for What {
+    ghost output = { λ what. Some (spec.what_word what) };
+
     fn fmt<W: fmt::Write>(&self, f: &mut fmt::Formatter<W>) -> fmt::Result {
         f.write_str(match self {
             What::Lifecycle => "lifecycle",
@@ -19,6 +25,8 @@ impl fmt::Display for What {
 }
 
 impl fmt::Display for Row<'_> {
+    ghost output = { λ row. Some (spec.row_text (seen_row row)) };
+
     fn fmt<W: fmt::Write>(&self, f: &mut fmt::Formatter<W>) -> fmt::Result {
         match *self {
             Row::Queue(name) => write!(f, "queue `{name}`"),
@@ -29,6 +37,8 @@ impl fmt::Display for Row<'_> {
 }
 
 impl fmt::Display for Unknown<'_> {
+    ghost output = { λ found. Some (spec.unknown_text (seen found)) };
+
     fn fmt<W: fmt::Write>(&self, f: &mut fmt::Formatter<W>) -> fmt::Result {
         let Unknown { row, what, name } = *self;
         write!(f, "{row}: the settings don't know the {what} `{name}`")

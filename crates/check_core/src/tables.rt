@@ -1,18 +1,29 @@
 //! What is wrong first with tables, by settings.
 
-ghost use Rattle.std.specs.Prelude.{◌≡◌, ◌≢◌, IfOk, None};
-ghost use Rattle.store_tables.specs.Calls.{Spares};
+ghost use Rattle.std.specs.Prelude.{IfOk};
+ghost use Rattle.store_tables.specs.Calls.{LeavesTables};
 ghost use Rattle.store_core.specs.Seen.{state_of};
-ghost use Rattle.check_core.specs.Tables.{NothingIsWrong};
+ghost use Rattle.check_core.specs.Tables.{BeginsOver, IsWrong};
 
-use crate::bad_key::bad_request;
-use crate::bad_rows::{Table, bad_table};
 use crate::rows::{Unknown, unknown_entry, unknown_queue, unknown_request, unknown_watcher};
 use desk_model::RequestRow;
 use service_core::{AttachFault, knows_tables};
 use settings_core::Settings;
 use std::alloc::{AllocError, Global};
 use store_core::{Backend, Store, StoreFault};
+
+/// What is wrong first with tables.
+#[derive(Drop)]
+pub enum Wrong {
+    /// The settings don't know this name, which is told in words.
+    Name(String),
+    /// A row is no value of its type, or the store or memory refused it.
+    Rows(StoreFault),
+    /// The same of tables of version 1.
+    FirstRows(StoreFault),
+    /// The tables are of another version, or it couldn't be read.
+    Version(StoreFault),
+}
 
 /// What is wrong first with tables: their version, a row that is no value of its type, or a name
 /// that the settings don't know. The tables stay as they are.
@@ -21,34 +32,37 @@ pub fn first_fault<S: Backend>(
     alloc: Global,
     store: &mut Store<S>,
     settings: &Settings,
-) -> Result<Option<String>, AllocError>
-    ensures kept { Spares (state_of S.Store store.old) (state_of S.Store store.new) }
+) -> Result<Option<Wrong>, AllocError>
+    ensures kept { LeavesTables (state_of S.Store store.old) (state_of S.Store store.new) }
 {
     match store.version() {
         Ok(2) => fault_of_tables(alloc, store, settings),
         Ok(1) => fault_of_first_tables(alloc, store, settings),
-        Ok(_) => store_told(alloc, StoreFault::WrongVersion),
-        Err(fault) => store_told(alloc, fault),
+        Ok(_) => Ok(Some(Wrong::Version(StoreFault::WrongVersion))),
+        Err(fault) => Ok(Some(Wrong::Version(fault))),
     }
 }
 
 /// What is wrong first with tables of the present version, as `Desk::attach` finds it: a row that is
-/// no value of its type, or else a name that the settings don't know. Where nothing is, each row
-/// that is tested then is good, and the settings know each name. The tables stay as they are.
+/// no value of its type, or else a name that the settings don't know. Nothing is wrong exactly where
+/// each row that is tested then is good and the settings know each name, unless the store or memory
+/// refuses it. The tables stay as they are.
 #[tactic(auto, using(store_tables::proofs::Spared::joined))]
 pub fn fault_of_tables<S: Backend>(
     alloc: Global,
     store: &mut Store<S>,
     settings: &Settings,
-) -> Result<Option<String>, AllocError>
-    ensures nothing { IfOk result (λ told. told ≡ None → NothingIsWrong settings.now
+) -> Result<Option<Wrong>, AllocError>
+    ensures is { IfOk result (IsWrong settings.now
         (state_of S.Store store.old) (state_of S.Store store.new)) }
-    ensures kept { Spares (state_of S.Store store.old) (state_of S.Store store.new) }
+    ensures begins { IfOk result (BeginsOver settings.now
+        (state_of S.Store store.old) (state_of S.Store store.new)) }
+    ensures kept { LeavesTables (state_of S.Store store.old) (state_of S.Store store.new) }
 {
     match knows_tables(alloc, store, settings) {
         Ok(true) => Ok(None),
-        Ok(false) => name_told(alloc, store, settings),
-        Err(fault) => row_told(alloc, store, fault),
+        Ok(false) => Ok(Some(Wrong::Name(name_told(alloc, store, settings)?))),
+        Err(fault) => Ok(Some(Wrong::Rows(fault))),
     }
 }
 
@@ -57,85 +71,54 @@ fn name_told<S: Backend>(
     alloc: Global,
     store: &mut Store<S>,
     settings: &Settings,
-) -> Result<Option<String>, AllocError>
-    ensures told { IfOk result (λ told. told ≢ None) }
-    ensures kept { Spares (state_of S.Store store.old) (state_of S.Store store.new) }
+) -> Result<String, AllocError>
+    ensures kept { LeavesTables (state_of S.Store store.old) (state_of S.Store store.new) }
 {
     match first_unknown(alloc, store, settings) {
-        Ok(Some(told)) => Ok(Some(format!(in alloc; "attach: {told}")?)),
-        Ok(None) => attach_told(alloc, AttachFault::UnknownName),
-        Err(fault) => attach_told(alloc, fault),
+        Ok(Some(told)) => Ok(told),
+        Ok(None) => words(alloc, AttachFault::UnknownName),
+        Err(AttachFault::NoMemory) => Err(AllocError),
+        Err(fault) => words(alloc, fault),
     }
 }
 
-/// The first table that has a row that is no value of its type, in words, or else the fault. The
-/// tables stay as they are.
-#[tactic(auto, using(store_tables::proofs::Spared::joined))]
-fn row_told<S: Backend>(
-    alloc: Global,
-    store: &mut Store<S>,
-    fault: StoreFault,
-) -> Result<Option<String>, AllocError>
-    ensures told { IfOk result (λ told. told ≢ None) }
-    ensures kept { Spares (state_of S.Store store.old) (state_of S.Store store.new) }
-{
-    match bad_table(alloc, store) {
-        Ok(Some(table)) => bad_row_told(alloc, store, table),
-        _ => attach_told(alloc, AttachFault::Store(fault)),
-    }
+fn words(alloc: Global, fault: AttachFault) -> Result<String, AllocError> {
+    format!(in alloc; "{fault}")
 }
 
-/// The table that has a row that is no value of its type, in words, with its request where one is
-/// found. The tables stay as they are.
-fn bad_row_told<S: Backend>(
-    alloc: Global,
-    store: &mut Store<S>,
-    table: Table,
-) -> Result<Option<String>, AllocError>
-    ensures told { IfOk result (λ told. told ≢ None) }
-    ensures kept { Spares (state_of S.Store store.old) (state_of S.Store store.new) }
-{
-    let told = match bad_request(alloc, store, table) {
-        Ok(Some(id)) => format!(in alloc;
-            "attach: a row of the table `{table}`, of request {id}, is no value of its type"
-        )?,
-        _ => format!(in alloc; "attach: a row of the table `{table}` is no value of its type")?,
-    };
-    Ok(Some(told))
-}
-
-/// What is wrong first with tables of version 1, which have no stays and no due moments yet: a link
-/// that is none, or else another row or a name. The tables stay as they are.
+/// What is wrong first with tables of version 1, which have no stays yet: a row that is no value of
+/// its type, or else a name that the settings don't know. The tables stay as they are.
 #[tactic(auto, using(store_tables::proofs::Spared::joined))]
 fn fault_of_first_tables<S: Backend>(
     alloc: Global,
     store: &mut Store<S>,
     settings: &Settings,
-) -> Result<Option<String>, AllocError>
-    ensures kept { Spares (state_of S.Store store.old) (state_of S.Store store.new) }
+) -> Result<Option<Wrong>, AllocError>
+    ensures kept { LeavesTables (state_of S.Store store.old) (state_of S.Store store.new) }
 {
-    match store.links(alloc) {
-        Ok(links) => drop(links),
-        Err(fault) => return attach_told(alloc, AttachFault::Store(fault)),
+    if let Err(fault) = test_first_rows(alloc, store) {
+        return Ok(Some(Wrong::FirstRows(fault)));
     }
     match first_unknown(alloc, store, settings) {
         Ok(None) => Ok(None),
-        Ok(Some(told)) => Ok(Some(format!(in alloc; "attach: {told}")?)),
-        Err(fault) => attach_told(alloc, fault),
+        Ok(Some(told)) => Ok(Some(Wrong::Name(told))),
+        Err(AttachFault::Store(fault)) => Ok(Some(Wrong::FirstRows(fault))),
+        Err(_) => Err(AllocError),
     }
 }
 
-fn attach_told(alloc: Global, fault: AttachFault) -> Result<Option<String>, AllocError>
-    ensures told { IfOk result (λ told. told ≢ None) }
+/// Reads the rows that attaching tests, but for stays, so that each has to be a value of its type.
+/// The tables stay as they are.
+#[tactic(auto, using(store_tables::proofs::Spared::joined))]
+fn test_first_rows<S: Backend>(alloc: Global, store: &mut Store<S>) -> Result<(), StoreFault>
+    ensures kept { LeavesTables (state_of S.Store store.old) (state_of S.Store store.new) }
 {
-    match fault {
-        AttachFault::NoMemory => Err(AllocError),
-        _ => Ok(Some(format!(in alloc; "attach: {fault}")?)),
-    }
-}
-
-fn store_told(alloc: Global, fault: StoreFault) -> Result<Option<String>, AllocError> {
-    Ok(Some(format!(in alloc; "store: {fault}")?))
+    drop(store.dated_requests(alloc)?);
+    drop(store.queues(alloc)?);
+    drop(store.links(alloc)?);
+    drop(store.actors(alloc)?);
+    drop(store.watchers(alloc)?);
+    Ok(())
 }
 
 /// The first name in the rows that the settings don't know, in words: of a queue, a request, a
@@ -146,7 +129,7 @@ fn first_unknown<S: Backend>(
     store: &mut Store<S>,
     settings: &Settings,
 ) -> Result<Option<String>, AttachFault>
-    ensures kept { Spares (state_of S.Store store.old) (state_of S.Store store.new) }
+    ensures kept { LeavesTables (state_of S.Store store.old) (state_of S.Store store.new) }
 {
     let queues = match store.queues(alloc) {
         Ok(queues) => queues,
@@ -174,7 +157,7 @@ fn unknown_watch<S: Backend>(
     store: &mut Store<S>,
     settings: &Settings,
 ) -> Result<Option<String>, AttachFault>
-    ensures kept { Spares (state_of S.Store store.old) (state_of S.Store store.new) }
+    ensures kept { LeavesTables (state_of S.Store store.old) (state_of S.Store store.new) }
 {
     match store.watchers(alloc) {
         Ok(watchers) => match unknown_watcher(settings, watchers.as_slice()) {
@@ -193,7 +176,7 @@ fn unknown_actor<S: Backend>(
     settings: &Settings,
     requests: &[RequestRow],
 ) -> Result<Option<String>, AttachFault>
-    ensures kept { Spares (state_of S.Store store.old) (state_of S.Store store.new) }
+    ensures kept { LeavesTables (state_of S.Store store.old) (state_of S.Store store.new) }
 {
     for request in requests {
         if let Some(told) = unknown_actor_of(alloc, store, settings, request.id)? {
@@ -210,7 +193,7 @@ fn unknown_actor_of<S: Backend>(
     settings: &Settings,
     id: u32,
 ) -> Result<Option<String>, AttachFault>
-    ensures kept { Spares (state_of S.Store store.old) (state_of S.Store store.new) }
+    ensures kept { LeavesTables (state_of S.Store store.old) (state_of S.Store store.new) }
 {
     match store.entries_of(alloc, id) {
         Ok(entries) => match unknown_entry(settings, entries.as_slice()) {

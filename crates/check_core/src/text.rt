@@ -1,5 +1,8 @@
 //! A fault of a settings text, in words for people.
 
+ghost use Rattle.std.specs.Prelude.{◌≢◌, OnOk};
+ghost use Rattle.settings_places.specs.declared.reading.Unread.TheVariants as unread_as;
+
 use crate::day::{BadInterval, bad_interval};
 use crate::inside::named;
 use crate::why::Told;
@@ -10,8 +13,11 @@ use settings_places::reading::{PlacedFault, TomlFault, Unread};
 use std::alloc::{AllocError, Global};
 use toml::Table;
 
-/// Why a text states no settings: where the fault stands first, and what is wrong there.
-pub fn settings_told(alloc: Global, unread: &Unread) -> Result<String, AllocError> {
+/// Why a text states no settings: where the fault stands first, and what is wrong there. It is told
+/// of a fault alone, and not of want of memory.
+pub fn settings_told(alloc: Global, unread: &Unread) -> Result<String, AllocError>
+    ensures { OnOk result (unread.now ≢ unread_as.NoMemory) }
+{
     match unread {
         Unread::NotToml(fault) => toml_told(alloc, *fault),
         Unread::Fault(fault) => fault_told(alloc, fault),

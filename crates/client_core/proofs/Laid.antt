@@ -6,7 +6,7 @@ use Rattle.std.specs.List.{list_all}
 use Rattle.std.proofs.lemmas.Bool.{and_parts, ne_eqb}
 use Rattle.std.proofs.lemmas.Slice.Eq.{bytes_eq-Decides}
 use Rattle.text_core.specs.Form.{is_name}
-use Rattle.desk_forms.specs.Paths.{Bound, InQueue, Nothing, OnRequest, Part, Row, get, id, lit, queue}
+use Rattle.desk_forms.specs.Paths.{PathParameter, InQueue, Nothing, OnRequest, Part, Row, get, id, lit, queue}
 use Rattle.desk_forms.specs.Table.{paths}
 use Rattle.desk_forms.specs.Values.{Values}
 use Rattle.desk_forms.specs.declared.paths.Method.{Method}
@@ -75,7 +75,7 @@ cut_part p (q ∷ parts) v all =
     ∙ ap (λ (l : List ℕ). (l, left_for (q ∷ parts) v)) (append-nil (part_text p v))
 
 -- what is named behind a part
-abbrev onward : Part → Values → Bound → Bound
+abbrev onward : Part → Values → PathParameter → PathParameter
 onward (lit here) v b = b
 onward queue v b = InQueue (queue_text v.queue)
 onward id v b = OnRequest v.id
@@ -85,7 +85,7 @@ some_name [] true is = absurd (let no : false ≡ true = is in cc)
 some_name (b ∷ bs) true is = rw is (ne_eqb (length (b ∷ bs)) 0 (λ e. omega (arith, e)))
 some_name name false is = rw is refl
 
-bound_part : (p : Part) (v : Values) (b : Bound) → v.id < 2 ^ 32
+bound_part : (p : Part) (v : Values) (b : PathParameter) → v.id < 2 ^ 32
     → bound_to p (part_text p v) b ≡ Some (onward p v b)
 bound_part (lit here) v b small = rw ((bytes_eq-Decides here here).1 refl) refl
 bound_part queue v b small = rw (some_name v.queue (is_name v.queue) refl) refl
@@ -100,11 +100,11 @@ part_utf8 p v all =
 
 -- ---- all parts
 
-abbrev all_named : List Part → Values → Bound → Bound
+abbrev all_named : List Part → Values → PathParameter → PathParameter
 all_named [] v b = b
 all_named (p ∷ parts) v b = all_named parts v (onward p v b)
 
-laid : (parts : List Part) (v : Values) (b : Bound) → v.id < 2 ^ 32
+laid : (parts : List Part) (v : Values) (b : PathParameter) → v.id < 2 ^ 32
     → list_all stands parts ≡ true → bound_by parts (left_for parts v, b) ≡ Some (all_named parts v b)
 laid [] v b small all = refl
 laid (p ∷ parts) v b small all =
@@ -124,7 +124,7 @@ names_one [] = true
 names_one (lit here ∷ parts) = names_one parts
 names_one (p ∷ parts) = names_none parts
 
-none_named : (parts : List Part) (v : Values) (b : Bound) → names_none parts ≡ true
+none_named : (parts : List Part) (v : Values) (b : PathParameter) → names_none parts ≡ true
     → all_named parts v b ≡ b
 none_named [] v b none = refl
 none_named (lit here ∷ parts) v b none = none_named parts v b none
@@ -144,11 +144,11 @@ bound_back : (parts : List Part) (v : Values) → v.id < 2 ^ 32 → list_all sta
 bound_back [] v small all one some = absurd (let no : false ≡ true = some in cc)
 bound_back (p ∷ parts) v small all one some =
     laid (p ∷ parts) v Nothing small all
-    ∙ ap (λ (b : Bound). Some b) (one_named (p ∷ parts) v one)
+    ∙ ap (λ (b : PathParameter). Some b) (one_named (p ∷ parts) v one)
 
 -- ---- a row
 
-on_row : (row : Row) (path : List ℕ) (b : Bound) → bound_at row.parts path ≡ Some b
+on_row : (row : Row) (path : List ℕ) (b : PathParameter) → bound_at row.parts path ≡ Some b
     → place_on row row.method path ≡ Some (at row b)
 on_row row path b is = by row.method ∙ ap (option_map (at row)) is
   where

@@ -23,7 +23,7 @@ use Rattle.desk_forms.specs.declared.paths.Method.TheVariants.{Get, Post}
 use Rattle.desk_forms.specs.declared.table.Form.TheVariants as form
 use Rattle.route_core.specs.Commands.{members_for}
 use Rattle.route_core.specs.Members.{texts_in}
-use Rattle.route_core.specs.Said.{said_by}
+use Rattle.route_core.specs.JsonArguments.{said_by}
 use Rattle.client_core.specs.Asked.{CanTell, SaysWhatIsMade}
 use Rattle.client_core.specs.Body.{WritesBy, members}
 use Rattle.client_core.specs.Spelled.{row_at}

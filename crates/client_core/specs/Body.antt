@@ -6,7 +6,7 @@ use Rattle.serde_json.specs.Data.{no_members, put}
 use Rattle.serde_json.specs.View.{items_of}
 use Rattle.serde_json.specs.Read.{read}
 use Rattle.desk_forms.specs.Kinds.{Argument}
-use Rattle.desk_forms.specs.Paths.{Bound, InQueue, Row}
+use Rattle.desk_forms.specs.Paths.{PathParameter, InQueue, Row}
 use Rattle.desk_forms.specs.Table.{arguments}
 use Rattle.desk_forms.specs.Values.{Values}
 use Rattle.desk_forms.specs.declared.kinds.Kind.{Kind}
@@ -17,12 +17,12 @@ use Rattle.client_core.specs.Spelled.{link_name, role_name}
 use Rattle.client_core.specs.Target.{named}
 
 -- a queue that the path names isn't posted
-abbrev pub queue_of : Bound → List ℕ → Option Data
+abbrev pub queue_of : PathParameter → List ℕ → Option Data
 queue_of (InQueue name) posted = None
 queue_of _ posted = Some (string posted)
 
 -- what is posted of an argument of the kind, if anything is
-abbrev pub value_of : Bound → Kind → Values → List (List ℕ) → Option Data
+abbrev pub value_of : PathParameter → Kind → Values → List (List ℕ) → Option Data
 value_of b kind.Id v many = None
 value_of b (kind.Flag letter) v many = None
 value_of b kind.Other v many = Some (number (unsigned v.other))
@@ -39,7 +39,7 @@ put_if key None ms = ms
 put_if key (Some value) ms = put key value ms
 
 -- these members, and what is posted of the arguments
-abbrev pub with_all : Bound → List Argument → Values → List (List ℕ) → Members → Members
+abbrev pub with_all : PathParameter → List Argument → Values → List (List ℕ) → Members → Members
 with_all b [] v many ms = ms
 with_all b (a ∷ rest) v many ms =
     with_all b rest v many (put_if a.key (value_of b a.kind v many) ms)

@@ -1,7 +1,7 @@
 -- The path of a row of the table, with what a command's values say at its parts.
 use Rattle.std.specs.Prelude.{ℕ, List, [], ◌∷◌, ◌++◌, codes, decimal, if◌then◌else◌}
 use Rattle.text_core.specs.Form.{is_name}
-use Rattle.desk_forms.specs.Paths.{Bound, InQueue, Nothing, OnRequest, Part, id, lit, queue}
+use Rattle.desk_forms.specs.Paths.{PathParameter, InQueue, Nothing, OnRequest, Part, id, lit, queue}
 use Rattle.desk_forms.specs.Values.{Values}
 
 -- a queue by its name; what can be no name is told as `%`, which is none either
@@ -19,7 +19,7 @@ target [] v = []
 target (part ∷ parts) v = 47 ∷ (part_text part v ++ target parts v)
 
 -- what these parts name
-abbrev pub named : List Part → Values → Bound
+abbrev pub named : List Part → Values → PathParameter
 named [] v = Nothing
 named (lit here ∷ parts) v = named parts v
 named (queue ∷ parts) v = InQueue (queue_text v.queue)

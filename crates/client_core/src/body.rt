@@ -12,7 +12,7 @@ ghost use Rattle.client_core.specs.Body as spec;
 use crate::spelled::{link_name, role_name};
 use crate::target::named;
 use desk_forms::kinds::{Arg, Kind};
-use desk_forms::paths::{Bound, Method, Path};
+use desk_forms::paths::{Method, Path, PathParameter};
 use desk_forms::table::args_of;
 use desk_forms::values::Values;
 use serde_json::{Map, Value, put};
@@ -55,7 +55,7 @@ fn object_text(alloc: Global, members: Members) -> Result<Vec<u8>, AllocError>
 /// What is posted of the arguments.
 fn members_of(
     alloc: Global,
-    bound: Bound<'_>,
+    bound: PathParameter<'_>,
     args: &[Arg],
     values: &Values<'_>,
     many: &[Text],
@@ -90,7 +90,7 @@ fn put_if(
 /// What is posted of an argument of the kind, if anything is.
 fn value_of(
     alloc: Global,
-    bound: Bound<'_>,
+    bound: PathParameter<'_>,
     kind: Kind,
     values: &Values<'_>,
     many: &[Text],
@@ -118,12 +118,16 @@ fn number(number: u32) -> Value
     Value::from(number)
 }
 
-fn queue_of(alloc: Global, bound: Bound<'_>, queue: &str) -> Result<Option<Value>, AllocError>
+fn queue_of(
+    alloc: Global,
+    bound: PathParameter<'_>,
+    queue: &str,
+) -> Result<Option<Value>, AllocError>
     ensures { IfOk result (λ value. option_map view value
         ≡ spec.queue_of (bound_of bound.entry) queue.now) }
 {
     match bound {
-        Bound::Queue(_) => Ok(None),
+        PathParameter::Queue(_) => Ok(None),
         _ => some_text(alloc, queue),
     }
 }

@@ -11,7 +11,7 @@ ghost use Rattle.client_core.specs.Message.{Asks, AsksAt};
 
 use crate::body::body_for;
 use crate::fault::AskFault;
-use crate::spelled::{many_of, spelling_of};
+use crate::spelled::{many_of, route_and_arguments_of};
 use crate::target::{add_number, add_target, add_text};
 use desk_forms::paths::{Method, Path};
 use desk_forms::table::paths;
@@ -98,7 +98,7 @@ pub fn message_bytes(
     if !is_token(token) {
         return Err(AskFault::BadToken);
     }
-    let (place, values) = spelling_of(command);
+    let (place, values) = route_and_arguments_of(command);
     bytes_to(alloc, host, token, row_at(place), &values, many_of(command))
 }
 

@@ -15,7 +15,7 @@ use text_core::Text;
 /// command, with its texts. A link is named by its own kind: where words named the inverse, they
 /// have changed its ends already.
 #[tactic(auto, unfolding(desk_forms::specs::Table::paths))]
-pub(crate) fn spelling_of(command: &Command) -> (usize, Values<'_>)
+pub(crate) fn route_and_arguments_of(command: &Command) -> (usize, Values<'_>)
     ensures { Makes result.0 (values_of result.1) command.entry.now }
 {
     match command {

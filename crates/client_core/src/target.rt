@@ -4,7 +4,7 @@ ghost use Rattle.desk_forms.specs.Paths.{bound_of, part_of};
 ghost use Rattle.desk_forms.specs.Values.{values_of};
 ghost use Rattle.client_core.specs.Target as spec;
 
-use desk_forms::paths::{Bound, Part};
+use desk_forms::paths::{Part, PathParameter};
 use desk_forms::values::Values;
 use itoa::Buffer;
 use std::alloc::AllocError;
@@ -44,17 +44,17 @@ fn queue_text(name: &str) -> &str
 }
 
 /// What these parts name.
-pub(crate) fn named<'v>(parts: &[Part], values: &Values<'v>) -> Bound<'v>
+pub(crate) fn named<'v>(parts: &[Part], values: &Values<'v>) -> PathParameter<'v>
     ensures { bound_of result ≡ spec.named (map part_of parts.now) (values_of values.now) }
 {
     for part in parts {
         match part {
             Part::Lit(_) => {}
-            Part::Queue => return Bound::Queue(queue_text(values.queue)),
-            Part::Id => return Bound::Request(values.id),
+            Part::Queue => return PathParameter::Queue(queue_text(values.queue)),
+            Part::Id => return PathParameter::Request(values.id),
         }
     }
-    Bound::Nothing
+    PathParameter::Nothing
 }
 
 pub(crate) fn add_text(out: &mut Vec<u8>, text: &str) -> Result<(), AllocError>

@@ -15,7 +15,7 @@ use Rattle.desk_model.specs.Facts.{seen_request, seen_request_at}
 use Rattle.desk_model.specs.Plan.{Call, Plan, Reads, OnQueue, OnRequest, Nothing}
 use Rattle.desk_model.specs.Plan.{Stays, Dependencies, Another, besides_on, conditions_of}
 use Rattle.desk_model.specs.Plan.{OneQueue, OneRequest, WholeDesk, is_missing}
-use Rattle.desk_model.specs.Plan.{named_by, on_shown, seen_by}
+use Rattle.desk_model.specs.Plan.{named_by, on_shown, facts_of_plan}
 use Rattle.desk_model.specs.Step.{answer_of}
 use Rattle.desk_model.specs.Refusals.{number_of}
 use Rattle.desk_model.specs.Rights.{is_shown, may_show}
@@ -82,7 +82,7 @@ missing_unless_shown s at caller None e = refl
 missing_unless_shown s at caller (Some request) e = ap not e
 
 abbrev guard_by : Call → Plan → Desk → Option Refusal
-guard_by c plan desk = first_holding (conditions_of c (seen_by plan desk) plan)
+guard_by c plan desk = first_holding (conditions_of c (facts_of_plan plan desk) plan)
 
 abbrev RefusedByPlan : Call → Plan → Desk → ℕ → Type 0
 RefusedByPlan c plan desk id =

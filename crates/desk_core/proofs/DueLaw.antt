@@ -7,7 +7,7 @@ use Rattle.desk_model.specs.Commands.{plan_of}
 use Rattle.desk_model.specs.Desk.{Desk}
 use Rattle.desk_model.specs.IsDesk.{IsDesk}
 use Rattle.desk_model.specs.Plan.{Call, Plan, Reads, answer_by, change_by, filed_or_done}
-use Rattle.desk_model.specs.Plan.{seen_by}
+use Rattle.desk_model.specs.Plan.{facts_of_plan}
 use Rattle.desk_model.specs.Step.{answer_of, call}
 use Rattle.desk_model.specs.declared.command.Command.{Command}
 use Rattle.desk_model.specs.declared.rows.RequestRow.{RequestRow}
@@ -24,7 +24,7 @@ due_by_plan : (c : Call) (plan : Plan) (desk : Desk) → IsDesk desk → OwesRig
     → All (IsDue c.settings desk) (dues_told (answer_by c desk plan))
 due_by_plan c (Reads topic told) desk is right = right.due c desk is
 due_by_plan c plan desk is right =
-    no_due c.settings desk (change_by c (seen_by plan desk) plan).filed
+    no_due c.settings desk (change_by c (facts_of_plan plan desk) plan).filed
 
 pub due_law : (s : Settings) (at : ℕ) (caller : List ℕ) (command : Command) (desk : Desk)
     → IsDesk desk → All (IsDue s desk) (dues_told (answer_of s at caller command desk))

@@ -14,7 +14,7 @@ use Rattle.desk_model.specs.Facts.{queue_of, seen_request}
 use Rattle.desk_model.specs.Plan.{Call, Plan, Reads, OnQueue, OnRequest, Nothing}
 use Rattle.desk_model.specs.Plan.{Stays, Dependencies, Another, besides_on}
 use Rattle.desk_model.specs.Plan.{change_by, change_of_request, conditions_by, conditions_of}
-use Rattle.desk_model.specs.Plan.{conditions_of_words, is_missing, on_shown, seen_by}
+use Rattle.desk_model.specs.Plan.{conditions_of_words, is_missing, on_shown, facts_of_plan}
 use Rattle.desk_model.specs.Step.{call, desk_after}
 use Rattle.desk_model.specs.Step.{desk_unless, effect, facts_of, guard}
 use Rattle.desk_model.specs.declared.change.Change.{Change}
@@ -202,11 +202,11 @@ on_request P call queue desk asked id
 by_plan : (P : Call → Facts → SeenRequest → RequestRow → Type 0) (call : Call) (plan : Plan)
     (desk : Desk) (id : ℕ) (before : Request) (new : RequestRow)
     → request_at desk id ≡ Some before → KeepsIds plan
-    → first_holding (conditions_by call (seen_by plan desk) plan) ≡ None
-    → (change_by call (seen_by plan desk) plan).row ≡ Some new → before.row.id ≡ new.id
+    → first_holding (conditions_by call (facts_of_plan plan desk) plan) ≡ None
+    → (change_by call (facts_of_plan plan desk) plan).row ≡ Some new → before.row.id ≡ new.id
     → Goes P plan
-    → P call (seen_by plan desk) (seen_request before) new
-    × ((seen_by plan desk).queue ≡ queue_at desk before.row.queue)
+    → P call (facts_of_plan plan desk) (seen_request before) new
+    × ((facts_of_plan plan desk).queue ≡ queue_at desk before.row.queue)
 by_plan P call (Reads topic answer) desk id before new was ids free sets same goes = cc
 by_plan P call (OnQueue name beforehand conditions change) desk id before new was ids free
     sets same goes =

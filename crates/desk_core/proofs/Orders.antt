@@ -5,7 +5,7 @@ use Rattle.desk_model.specs.Commands.{plan_of}
 use Rattle.desk_model.specs.Desk.{Desk}
 use Rattle.desk_model.specs.IsDesk.{IsDesk}
 use Rattle.desk_model.specs.Plan.{Call, Plan, Reads, answer_by, change_by, filed_or_done}
-use Rattle.desk_model.specs.Plan.{seen_by}
+use Rattle.desk_model.specs.Plan.{facts_of_plan}
 use Rattle.desk_model.specs.Readings.{IsInOrder}
 use Rattle.desk_model.specs.Step.{answer_of, call}
 use Rattle.desk_model.specs.declared.command.Command.{Command}
@@ -21,7 +21,7 @@ in_order_by_plan : (plan : Plan) (call : Call) (desk : Desk) → IsDesk desk →
     → IsInOrder (answer_by call desk plan)
 in_order_by_plan (Reads topic told) call desk is right = right.ordered call desk is
 in_order_by_plan plan call desk is right =
-    nothing_listed (change_by call (seen_by plan desk) plan).filed
+    nothing_listed (change_by call (facts_of_plan plan desk) plan).filed
 
 pub orders_law : (s : Settings) (at : ℕ) (caller : List ℕ) (command : Command) (desk : Desk)
     → IsDesk desk → IsInOrder (answer_of s at caller command desk)

@@ -13,7 +13,7 @@ use Rattle.desk_model.specs.Facts.{seen_request}
 use Rattle.desk_model.specs.IsDesk.{IsDesk, are_numbered}
 use Rattle.desk_model.specs.Names.{in_order}
 use Rattle.desk_model.specs.Plan.{Call, Plan, Reads, OnQueue, OnRequest}
-use Rattle.desk_model.specs.Plan.{change_by, seen_by}
+use Rattle.desk_model.specs.Plan.{change_by, facts_of_plan}
 use Rattle.desk_model.specs.Step.{call, desk_after, desk_unless, effect, facts_of, guard}
 use Rattle.desk_model.specs.declared.change.Change.{Change}
 use Rattle.desk_model.specs.declared.command.Command.{Command}
@@ -151,8 +151,8 @@ number_within n id (y ∷ ys) r numbered there =
 -- a request that the plan isn't on stays as it is
 stays_by_plan : (plan : Plan) (call : Call) (desk : Desk) (id : ℕ) (r : Request) → IsDesk desk
     → request_at desk id ≡ Some r → is_on plan id ≡ false
-    → Touches plan desk (change_by call (seen_by plan desk) plan)
-    → changed (change_by call (seen_by plan desk) plan) r ≡ r
+    → Touches plan desk (change_by call (facts_of_plan plan desk) plan)
+    → changed (change_by call (facts_of_plan plan desk) plan) r ≡ r
 stays_by_plan (Reads topic answer) call desk id r is there unnamed touches = refl
 stays_by_plan (OnQueue name beforehand conditions change) call desk id r is there unnamed touches =
     let within : r.row.id < 1 + length desk.requests =

@@ -11,7 +11,7 @@ use Rattle.desk_model.specs.Desk.{Desk, Request, queue_at, request_at}
 use Rattle.desk_model.specs.Facts.{seen_request}
 use Rattle.desk_model.specs.IsDesk.{IsDesk}
 use Rattle.desk_model.specs.Plan.{Call, Plan, Reads, OneQueue, OneRequest, WholeDesk, answer_by}
-use Rattle.desk_model.specs.Plan.{conditions_of, is_reading, is_unseen, on_shown, seen_by}
+use Rattle.desk_model.specs.Plan.{conditions_of, is_reading, is_unseen, on_shown, facts_of_plan}
 use Rattle.desk_model.specs.Rights.{is_shown, may_show}
 use Rattle.desk_model.specs.Step.{Outcome, call, outcome_of, outcome_unless}
 use Rattle.desk_model.specs.View.{as_seen, view}
@@ -60,7 +60,7 @@ kept_alike c (Some r) here there alike =
 
 abbrev outcome_by : Call → Plan → Desk → Outcome
 outcome_by c plan desk =
-    outcome_unless (first_holding (conditions_of c (seen_by plan desk) plan)) (answer_by c desk plan)
+    outcome_unless (first_holding (conditions_of c (facts_of_plan plan desk) plan)) (answer_by c desk plan)
 
 alike_by_plan : (c : Call) (plan : Plan) (desk : Desk) → IsDesk desk → is_reading plan ≡ true
     → OwesRight plan

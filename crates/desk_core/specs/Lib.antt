@@ -1,5 +1,5 @@
 pub mod Carried
-pub mod Context
+pub mod DecisionContext
 pub mod Decision
 pub mod Lawful
 pub mod Laws

@@ -17,7 +17,7 @@ use text_core::{Text, is_name, is_subject, is_text};
 /// The refusal that a command meets on every desk, if there is one, in this order: `UnknownCaller`,
 /// `BadMoment`, `BadText` of a new queue's name, a subject, or the text of a reply or a comment, and
 /// `UnknownName` of a new queue's lifecycle or level. It takes no memory, and no look at the desk.
-pub fn refused_beforehand(
+pub fn refusal_without_facts(
     settings: &Settings,
     at: u32,
     caller: &str,

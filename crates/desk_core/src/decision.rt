@@ -11,10 +11,10 @@ ghost use Rattle.desk_model.specs.Entries as entries;
 ghost use Rattle.desk_model.specs.Plan.{change_by, conditions_by, is_missing, is_unseen};
 ghost use Rattle.desk_model.specs.Rights as rights;
 ghost use Rattle.desk_model.specs.Step.{refusal_beforehand};
-ghost use Rattle.desk_core.specs.Context.{call_of};
+ghost use Rattle.desk_core.specs.DecisionContext.{call_of};
 ghost use Rattle.desk_core.specs.Decision.{Accepts, FollowsPlan, Refuses, change_of};
 
-use crate::beforehand::{moment_of, refused_beforehand};
+use crate::beforehand::{moment_of, refusal_without_facts};
 use desk_model::{
     Call, Change, Command, Entry, EntryKind, Facts, Refusal, SeenRequest, Topic, sees_queue,
 };
@@ -58,13 +58,13 @@ pub fn decide(
     ensures planned { FollowsPlan settings.now at caller.now facts.now command.now result }
     ensures reads { IsReading command.now → IfOk result (λ change. change ≡ no_change) }
 {
-    match refused_beforehand(settings, at, caller, command) {
+    match refusal_without_facts(settings, at, caller, command) {
         Some(refusal) => Err(refusal),
         None => decide_on_facts(alloc, settings, at, caller, facts, command),
     }
 }
 
-/// Decides, as `decide` does, a command that `refused_beforehand` doesn't refuse. Nothing of what
+/// Decides, as `decide` does, a command that `refusal_without_facts` doesn't refuse. Nothing of what
 /// is refused there is asked again.
 pub fn decide_on_facts(
     alloc: Global,
@@ -103,19 +103,19 @@ fn follow_plan(
     let Some(moment) = moment_of(call.at) else {
         unreachable!()
     };
-    let context = Context {
+    let context = DecisionContext {
         alloc,
         settings: call.settings,
         moment,
         caller: call.caller,
         facts,
     };
-    context.decide_dated(command)
+    context.decide_with_due(command)
 }
 
 /// What a decision on a command is made by that isn't refused beforehand.
 #[derive(Drop)]
-struct Context<'c> {
+struct DecisionContext<'c> {
     alloc: Global,
     settings: &'c Settings,
     moment: Minute,
@@ -123,10 +123,10 @@ struct Context<'c> {
     facts: &'c Facts,
 }
 
-impl<'c> Context<'c> {
+impl<'c> DecisionContext<'c> {
     /// The decision, where a change has the stays of the request whose row it puts, and its due
     /// moment.
-    fn decide_dated(&self, command: &Command) -> Result<Change, Refusal>
+    fn decide_with_due(&self, command: &Command) -> Result<Change, Refusal>
         ensures { Decides result
             (conditions_by (call_of self.now) self.now.facts.now (plan_of command.now))
             (change_of (call_of self.now) self.now.facts.now command.now) }

@@ -5,7 +5,7 @@
 //! change. Rows, commands, facts, answers, refusals and changes stand in `desk_model`, and are
 //! passed on.
 //!
-//! `refused_beforehand` has the refusals that need no look at a desk: of the caller, of the moment,
+//! `refusal_without_facts` has the refusals that need no look at a desk: of the caller, of the moment,
 //! and of the command's words alone. `decide_on_facts` has the others, and `decide` all. Each clause
 //! of a decision holds on every desk with the command's facts, well formed or not:
 //!
@@ -24,7 +24,7 @@ pub mod beforehand;
 pub mod decision;
 pub mod laws;
 
-pub use beforehand::refused_beforehand;
+pub use beforehand::refusal_without_facts;
 pub use decision::{decide, decide_on_facts};
 pub use desk_model::{
     Answer, Call, Change, Command, Dependency, Dossier, Entry, EntryKind, Facts, LateLine, Line,

@@ -5,7 +5,7 @@ ghost use Rattle.std.specs.List.{cons_option};
 ghost use Rattle.std.specs.Option.{option_map};
 ghost use Rattle.find_core.specs.Find.{findings};
 ghost use Rattle.find_core.specs.Rows.{place_if};
-ghost use Rattle.store_tables.specs.Calls.{Spares, Tells};
+ghost use Rattle.store_tables.specs.Calls.{LeavesTables, Tells};
 ghost use Rattle.store_core.specs.Due.{TellsDue};
 ghost use Rattle.store_core.specs.Seen.{state_of};
 ghost use Rattle.desk_finds.specs.Found.{found_of, is_by_last, looks_inside};
@@ -37,7 +37,7 @@ pub fn find<S: Backend>(
         ≡ findings call.entry.settings.now call.entry.at call.entry.caller.now search.now limit after
         desk)
         (state_of S.Store store.old) (state_of S.Store store.new) result }
-    ensures kept { Spares (state_of S.Store store.old) (state_of S.Store store.new) }
+    ensures kept { LeavesTables (state_of S.Store store.old) (state_of S.Store store.new) }
     ensures fault { IfErr result (λ refusal. refusal ≡ Refusal.Unavailable) }
 {
     let (settings, caller) = (call.settings, call.caller);
@@ -81,7 +81,7 @@ fn placed<S: Backend>(
     ensures told { Tells (λ desk placed. placed.items
         ≡ filter_map (placed_by settings.now caller.now search.now desk) rows.now)
         (state_of S.Store store.old) (state_of S.Store store.new) result }
-    ensures kept { Spares (state_of S.Store store.old) (state_of S.Store store.new) }
+    ensures kept { LeavesTables (state_of S.Store store.old) (state_of S.Store store.new) }
     ensures fault { IfErr result (λ refusal. refusal ≡ Refusal.Unavailable) }
 {
     let mut placed = Vec::new(alloc);
@@ -121,7 +121,7 @@ fn place_of<S: Backend>(
     ensures told { Tells (λ desk place. place ≡ place_if search.now dated.now
         (told_at settings.now caller.now desk dated.now.0.id))
         (state_of S.Store store.old) (state_of S.Store store.new) result }
-    ensures kept { Spares (state_of S.Store store.old) (state_of S.Store store.new) }
+    ensures kept { LeavesTables (state_of S.Store store.old) (state_of S.Store store.new) }
     ensures fault { IfErr result (λ refusal. refusal ≡ Refusal.Unavailable) }
 {
     if looks_inside(search) {
@@ -161,7 +161,7 @@ fn found<S: Backend>(
     ensures told { Tells (λ desk found. map Some found.items
         ≡ map (found_of settings.now caller.now desk) page.now)
         (state_of S.Store store.old) (state_of S.Store store.new) result }
-    ensures kept { Spares (state_of S.Store store.old) (state_of S.Store store.new) }
+    ensures kept { LeavesTables (state_of S.Store store.old) (state_of S.Store store.new) }
     ensures fault { IfErr result (λ refusal. refusal ≡ Refusal.Unavailable) }
 {
     let mut rows = Vec::new(alloc);
@@ -184,7 +184,7 @@ fn found_at<S: Backend>(
     ensures told { Tells (λ desk found. Some found
         ≡ found_of settings.now caller.now desk placed.now)
         (state_of S.Store store.old) (state_of S.Store store.new) result }
-    ensures kept { Spares (state_of S.Store store.old) (state_of S.Store store.new) }
+    ensures kept { LeavesTables (state_of S.Store store.old) (state_of S.Store store.new) }
     ensures fault { IfErr result (λ refusal. refusal ≡ Refusal.Unavailable) }
 {
     let (place, due) = placed;

@@ -4,7 +4,7 @@ ghost use Rattle.desk_model.specs.Rights.{sees_queue};
 ghost use Rattle.report_core.specs.Rows.{QueuesRise};
 ghost use Rattle.find_core.specs.Find.{sights};
 ghost use Rattle.find_core.specs.Loads as loads;
-ghost use Rattle.store_tables.specs.Calls.{Spares, Tells};
+ghost use Rattle.store_tables.specs.Calls.{LeavesTables, Tells};
 ghost use Rattle.store_core.specs.Due.{TellsDue};
 ghost use Rattle.store_core.specs.Seen.{state_of};
 
@@ -30,7 +30,7 @@ pub fn queue_loads<S: Backend>(
         (λ desk told. told
         ≡ loads.queue_loads call.entry.settings.now call.entry.at call.entry.caller.now desk)
         (state_of S.Store store.old) (state_of S.Store store.new) result }
-    ensures kept { Spares (state_of S.Store store.old) (state_of S.Store store.new) }
+    ensures kept { LeavesTables (state_of S.Store store.old) (state_of S.Store store.new) }
     ensures fault { IfErr result (λ refusal. refusal ≡ Refusal.Unavailable) }
 {
     let queues = seen(alloc, store, call.settings, call.caller)?;
@@ -51,7 +51,7 @@ fn seen<S: Backend>(
     ensures told { Tells
         (λ desk seen. seen.items ≡ filter (sees_queue settings.now caller.now) desk.queues)
         (state_of S.Store store.old) (state_of S.Store store.new) result }
-    ensures kept { Spares (state_of S.Store store.old) (state_of S.Store store.new) }
+    ensures kept { LeavesTables (state_of S.Store store.old) (state_of S.Store store.new) }
     ensures fault { IfErr result (λ refusal. refusal ≡ Refusal.Unavailable) }
 {
     let queues = store.queues(alloc)?;
@@ -70,7 +70,7 @@ fn loads<S: Backend>(
         ≡ map (loads.load_among call.entry.at
         (sights call.entry.settings.now call.entry.caller.now desk)) queues.items)
         (state_of S.Store store.old) (state_of S.Store store.new) result }
-    ensures kept { Spares (state_of S.Store store.old) (state_of S.Store store.new) }
+    ensures kept { LeavesTables (state_of S.Store store.old) (state_of S.Store store.new) }
     ensures fault { IfErr result (λ refusal. refusal ≡ Refusal.Unavailable) }
 {
     let search = open_ones(alloc);

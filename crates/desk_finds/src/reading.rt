@@ -2,7 +2,7 @@
 ghost use Rattle.std.specs.Prelude.{◌≡◌, IfErr};
 ghost use Rattle.desk_model.specs.Facts.{facts_on_request};
 ghost use Rattle.find_core.specs.Rows.{shows_comments, told_with};
-ghost use Rattle.store_tables.specs.Calls.{Spares, Tells};
+ghost use Rattle.store_tables.specs.Calls.{LeavesTables, Tells};
 ghost use Rattle.store_tables.specs.Contents.{history_at};
 ghost use Rattle.store_core.specs.Due.{TellsDue};
 ghost use Rattle.store_core.specs.Rows.{TellsDated};
@@ -34,7 +34,7 @@ pub(crate) fn asked<S: Backend>(
         (λ desk rows. rows.items ≡ asked_on call.entry.settings.now call.entry.at
         call.entry.caller.now search.now desk)
         (state_of S.Store store.old) (state_of S.Store store.new) result }
-    ensures kept { Spares (state_of S.Store store.old) (state_of S.Store store.new) }
+    ensures kept { LeavesTables (state_of S.Store store.old) (state_of S.Store store.new) }
     ensures fault { IfErr result (λ refusal. refusal ≡ Refusal.Unavailable) }
 {
     let own = store.watches_of(alloc, call.caller)?;
@@ -54,7 +54,7 @@ fn watches_by<S: Backend>(
 ) -> Result<Vec<Watcher>, Refusal>
     ensures told { Tells (λ desk watches. watches.items ≡ theirs_on desk person.now)
         (state_of S.Store store.old) (state_of S.Store store.new) result }
-    ensures kept { Spares (state_of S.Store store.old) (state_of S.Store store.new) }
+    ensures kept { LeavesTables (state_of S.Store store.old) (state_of S.Store store.new) }
     ensures fault { IfErr result (λ refusal. refusal ≡ Refusal.Unavailable) }
 {
     match person {
@@ -74,7 +74,7 @@ fn rows_in<S: Backend>(
 ) -> Result<Vec<Dated>, Refusal>
     ensures told { TellsDated (λ due desk rows. ArePart queue.now due desk rows.items)
         (state_of S.Store store.old) (state_of S.Store store.new) result }
-    ensures kept { Spares (state_of S.Store store.old) (state_of S.Store store.new) }
+    ensures kept { LeavesTables (state_of S.Store store.old) (state_of S.Store store.new) }
     ensures fault { IfErr result (λ refusal. refusal ≡ Refusal.Unavailable) }
 {
     match queue {
@@ -103,7 +103,7 @@ pub(crate) fn history<S: Backend>(
         (state_of S.Store store.old) (state_of S.Store store.new) result }
     ensures told { Tells (λ desk told. told.1.items ≡ told_at settings.now caller.now desk id)
         (state_of S.Store store.old) (state_of S.Store store.new) result }
-    ensures kept { Spares (state_of S.Store store.old) (state_of S.Store store.new) }
+    ensures kept { LeavesTables (state_of S.Store store.old) (state_of S.Store store.new) }
     ensures fault { IfErr result (λ refusal. refusal ≡ Refusal.Unavailable) }
 {
     let facts = facts_at(alloc, store, id)?;
@@ -120,7 +120,7 @@ pub(crate) fn history<S: Backend>(
 fn facts_at<S: Backend>(alloc: Global, store: &mut Store<S>, id: u32) -> Result<Facts, Refusal>
     ensures told { Tells (λ desk facts. facts ≡ facts_on_request desk id)
         (state_of S.Store store.old) (state_of S.Store store.new) result }
-    ensures kept { Spares (state_of S.Store store.old) (state_of S.Store store.new) }
+    ensures kept { LeavesTables (state_of S.Store store.old) (state_of S.Store store.new) }
     ensures fault { IfErr result (λ refusal. refusal ≡ Refusal.Unavailable) }
 {
     let show = Command::Show { id };
@@ -142,7 +142,7 @@ fn told_of<S: Backend>(
     ensures told { Tells (λ desk told. told.items ≡ told_with
         (shows_comments settings.now caller.now facts.now.request) (history_at desk id))
         (state_of S.Store store.old) (state_of S.Store store.new) result }
-    ensures kept { Spares (state_of S.Store store.old) (state_of S.Store store.new) }
+    ensures kept { LeavesTables (state_of S.Store store.old) (state_of S.Store store.new) }
     ensures fault { IfErr result (λ refusal. refusal ≡ Refusal.Unavailable) }
 {
     let entries = store.entries_of(alloc, id)?;

@@ -13,7 +13,7 @@ use Rattle.desk_forms.specs.Number.{number_of}
 use Rattle.desk_forms.specs.Paths as path
 use Rattle.desk_forms.specs.Paths.{InQueue, Nothing, OnRequest, Part}
 use Rattle.desk_forms.specs.Roles.{role_named}
-use Rattle.desk_forms.specs.Sheet.{Sheet}
+use Rattle.desk_forms.specs.ArgumentSource.{ArgumentSource}
 use Rattle.desk_forms.specs.Table.{arguments, made, paths, words}
 use Rattle.desk_forms.specs.Values.{blank}
 use Rattle.desk_forms.specs.Words.{asks, row_in}
@@ -151,7 +151,7 @@ sign_is_no_key = refl
 
 -- each request is 7 and each other number 8, each queue `general`, and each text `HasMember`; no
 -- sign is set
-abbrev sheet : Sheet
+abbrev sheet : ArgumentSource
 sheet =
     record {
       id = λ k. Some 7;

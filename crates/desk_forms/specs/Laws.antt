@@ -2,7 +2,7 @@
 use Rattle.std.specs.Prelude.{◌≡◌, ℕ, false, List, Option}
 use Rattle.std.specs.List.{list_any}
 use Rattle.desk_forms.specs.Asked.{made_if}
-use Rattle.desk_forms.specs.Sheet.{Sheet}
+use Rattle.desk_forms.specs.ArgumentSource.{ArgumentSource}
 use Rattle.desk_forms.specs.Table.{arguments, made}
 use Rattle.desk_forms.specs.Values.{Values, is_many, put_all}
 use Rattle.desk_forms.specs.declared.table.Form.{Form}
@@ -10,7 +10,7 @@ use Rattle.desk_forms.specs.declared.table.Form.{Form}
 -- whatever the values were before, what was given makes the same command
 abbrev pub BlankIsNeverSeen : Type 0
 BlankIsNeverSeen =
-    (form : Form) (sheet : Sheet) (v w : Values) (many : Option (List (List ℕ)))
+    (form : Form) (sheet : ArgumentSource) (v w : Values) (many : Option (List (List ℕ)))
     → made_if form (put_all (arguments form) sheet v) many
     ≡ made_if form (put_all (arguments form) sheet w) many
 

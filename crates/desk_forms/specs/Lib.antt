@@ -7,7 +7,7 @@ pub mod Links
 pub mod Number
 pub mod Paths
 pub mod Roles
-pub mod Sheet
+pub mod ArgumentSource
 pub mod Table
 pub mod Values
 pub mod Words

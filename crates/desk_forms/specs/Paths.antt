@@ -1,8 +1,8 @@
 -- The paths at which commands are asked for, and what a path names.
 use Rattle.std.specs.Prelude.{ℕ, List, map}
 use Rattle.desk_forms.specs.declared.table.Form.{Form}
-use Rattle.desk_forms.specs.declared.paths.Bound.{Bound as BoundInCode}
-use Rattle.desk_forms.specs.declared.paths.Bound.TheVariants as bound
+use Rattle.desk_forms.specs.declared.paths.PathParameter.{PathParameter as BoundInCode}
+use Rattle.desk_forms.specs.declared.paths.PathParameter.TheVariants as bound
 use Rattle.desk_forms.specs.declared.paths.Method.{Method}
 use Rattle.desk_forms.specs.declared.paths.Method.TheVariants.{Get, Post}
 use Rattle.desk_forms.specs.declared.paths.Part.{Part as PartInCode}
@@ -16,10 +16,10 @@ pub data Part : Type 0 where
   id : Part
 
 -- what the parts of a path name
-pub data Bound : Type 0 where
-  Nothing : Bound
-  InQueue : List ℕ → Bound
-  OnRequest : ℕ → Bound
+pub data PathParameter : Type 0 where
+  Nothing : PathParameter
+  InQueue : List ℕ → PathParameter
+  OnRequest : ℕ → PathParameter
 
 -- a method, a path, and the form of the command for which they ask
 pub record Row : Type 0 where
@@ -40,7 +40,7 @@ part_of (part.Lit text) = lit text.now
 part_of part.Queue = queue
 part_of part.Id = id
 
-abbrev pub bound_of : BoundInCode → Bound
+abbrev pub bound_of : BoundInCode → PathParameter
 bound_of bound.Nothing = Nothing
 bound_of (bound.Queue name) = InQueue name.now
 bound_of (bound.Request n) = OnRequest n

@@ -10,7 +10,7 @@ use Rattle.desk_forms.specs.Roles.{role_named}
 use Rattle.desk_forms.specs.declared.links.NamedKind.{NamedKind}
 use Rattle.desk_forms.specs.declared.links.NamedKind.TheVariants.{Plain}
 use Rattle.desk_forms.specs.Kinds.{Argument}
-use Rattle.desk_forms.specs.Sheet.{Sheet}
+use Rattle.desk_forms.specs.ArgumentSource.{ArgumentSource}
 use Rattle.desk_forms.specs.declared.kinds.Kind.{Kind}
 use Rattle.desk_forms.specs.declared.kinds.Kind.TheVariants as kind
 use Rattle.desk_forms.specs.declared.values.Values.{Values as InCode}
@@ -40,7 +40,7 @@ blank = record {
 }
 
 -- the values with what is given for an argument, if that is of its kind
-abbrev pub put : Kind → List ℕ → Sheet → Values → Option Values
+abbrev pub put : Kind → List ℕ → ArgumentSource → Values → Option Values
 put kind.Id k sheet v = option_map (λ n. record v { id = n }) (sheet.id k)
 put kind.Other k sheet v = option_map (λ n. record v { other = n }) (sheet.number k)
 put kind.Queue k sheet v = option_map (λ t. record v { queue = t }) (sheet.queue k)
@@ -54,7 +54,7 @@ put kind.Named k sheet v = option_map (λ t. record v { maybe = t }) (sheet.mayb
 put kind.Many k sheet v = Some v
 put (kind.Flag letter) k sheet v = Some (record v { away = sheet.is_set k })
 
-abbrev pub put_all : List Argument → Sheet → Values → Option Values
+abbrev pub put_all : List Argument → ArgumentSource → Values → Option Values
 put_all [] sheet v = Some v
 put_all (a ∷ rest) sheet v = option_and_then (put_all rest sheet) (put a.kind a.key sheet v)
 
@@ -63,7 +63,7 @@ is_many kind.Many = true
 is_many _ = false
 
 -- the texts of an argument that is many, where there is one
-abbrev pub many_in : List Argument → Sheet → Option (List (List ℕ))
+abbrev pub many_in : List Argument → ArgumentSource → Option (List (List ℕ))
 many_in [] sheet = Some []
 many_in (a ∷ rest) sheet = if is_many a.kind then sheet.texts a.key else many_in rest sheet
 

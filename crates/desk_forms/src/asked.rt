@@ -3,7 +3,7 @@
 ghost use Rattle.std.specs.Prelude.{◌≡◌, map, IfOk};
 ghost use Rattle.std.specs.Option.{option_map};
 ghost use Rattle.desk_forms.specs.Asked as asked;
-ghost use Rattle.desk_forms.specs.Sheet as spec;
+ghost use Rattle.desk_forms.specs.ArgumentSource as spec;
 ghost use Rattle.desk_forms.specs.Table.{arguments};
 ghost use Rattle.desk_forms.specs.Kinds.{argument_of};
 ghost use Rattle.desk_forms.specs.Values as values;
@@ -19,12 +19,12 @@ use std::alloc::{AllocError, Global};
 use text_core::Texts;
 
 /// What was given for a command, by the keys of its arguments.
-pub trait Sheet {
+pub trait ArgumentSource {
     ghost use Rattle.std.specs.Prelude.{◌≡◌, IfOk};
     ghost use Rattle.std.specs.Option.{option_map};
-    ghost use Rattle.desk_forms.specs.Sheet as spec;
+    ghost use Rattle.desk_forms.specs.ArgumentSource as spec;
 
-    ghost sheet: { Self → spec.Sheet };
+    ghost sheet: { Self → spec.ArgumentSource };
 
     /// The request that is meant.
     fn id(&self, key: &str) -> Option<u32>
@@ -57,7 +57,11 @@ pub trait Sheet {
 }
 
 /// The command of a form for which the sheet asks, if it gives what the form needs.
-pub fn asked<S: Sheet>(alloc: Global, of: Form, sheet: &S) -> Result<Option<Command>, AllocError>
+pub fn asked<S: ArgumentSource>(
+    alloc: Global,
+    of: Form,
+    sheet: &S,
+) -> Result<Option<Command>, AllocError>
     ensures { IfOk result (λ c. c ≡ asked.asked of (S.sheet sheet.now)) }
 {
     let args = args_of(of);
@@ -71,7 +75,11 @@ pub fn asked<S: Sheet>(alloc: Global, of: Form, sheet: &S) -> Result<Option<Comm
 }
 
 /// The values with all that is given for these arguments.
-fn put_all<'s, S: Sheet>(args: &[Arg], sheet: &'s S, blank: Values<'s>) -> Option<Values<'s>>
+fn put_all<'s, S: ArgumentSource>(
+    args: &[Arg],
+    sheet: &'s S,
+    blank: Values<'s>,
+) -> Option<Values<'s>>
     ensures { option_map values_of result
         ≡ values.put_all (map argument_of args.now) (S.sheet sheet.now) (values_of blank.entry) }
 {
@@ -86,7 +94,12 @@ fn put_all<'s, S: Sheet>(args: &[Arg], sheet: &'s S, blank: Values<'s>) -> Optio
 }
 
 /// The values with what is given for an argument, if that is of its kind.
-fn put<'s, S: Sheet>(kind: Kind, key: &str, sheet: &'s S, v: Values<'s>) -> Option<Values<'s>>
+fn put<'s, S: ArgumentSource>(
+    kind: Kind,
+    key: &str,
+    sheet: &'s S,
+    v: Values<'s>,
+) -> Option<Values<'s>>
     ensures { option_map values_of result
         ≡ values.put kind key.now (S.sheet sheet.now) (values_of v.entry) }
 {
@@ -141,7 +154,11 @@ fn is_many(kind: Kind) -> bool
 }
 
 /// Copies of the texts of an argument that is many, where there is one.
-fn many_in<S: Sheet>(alloc: Global, args: &[Arg], sheet: &S) -> Result<Option<Texts>, AllocError>
+fn many_in<S: ArgumentSource>(
+    alloc: Global,
+    args: &[Arg],
+    sheet: &S,
+) -> Result<Option<Texts>, AllocError>
     ensures { IfOk result (λ many.
         many ≡ values.many_in (map argument_of args.now) (S.sheet sheet.now)) }
 {

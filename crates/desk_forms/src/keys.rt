@@ -6,17 +6,17 @@ ghost use Rattle.desk_forms.specs.Kinds.{argument_of};
 ghost use Rattle.desk_forms.specs.Paths.{bound_of};
 
 use crate::kinds::{Arg, Kind};
-use crate::paths::Bound;
+use crate::paths::PathParameter;
 
 /// Whether an argument of the kind is posted, where the path names this.
-fn is_posted(bound: Bound<'_>, kind: Kind) -> bool
+fn is_posted(bound: PathParameter<'_>, kind: Kind) -> bool
     ensures { result ≡ keys.is_posted (bound_of bound.entry) kind }
 {
     match kind {
         Kind::Id => false,
         Kind::Flag(_) => false,
         Kind::Queue => match bound {
-            Bound::Queue(_) => false,
+            PathParameter::Queue(_) => false,
             _ => true,
         },
         _ => true,
@@ -24,7 +24,7 @@ fn is_posted(bound: Bound<'_>, kind: Kind) -> bool
 }
 
 /// Whether the key is that of an argument that is posted.
-pub fn is_key(bound: Bound<'_>, args: &[Arg], key: &str) -> bool
+pub fn is_key(bound: PathParameter<'_>, args: &[Arg], key: &str) -> bool
     ensures { result ≡ keys.is_key (bound_of bound.entry) (map argument_of args.now) key.now }
 {
     for arg in args {

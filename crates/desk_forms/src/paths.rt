@@ -25,7 +25,7 @@ pub struct Path(pub Method, pub &'static [Part], pub Form);
 
 /// What the parts of a path name.
 #[derive(Clone, Copy)]
-pub enum Bound<'a> {
+pub enum PathParameter<'a> {
     Nothing,
     Queue(&'a str),
     Request(u32),

@@ -10,7 +10,7 @@ use desk_program::{InputFault, open_desk, tell_input_fault};
 use load_core::{Ending, Loaded, Plan, is_beyond, load, put_beyond};
 use service_core::Desk;
 use sqlite::Connection;
-use std::io::{BufReader, Read, Write};
+use std::io::{BufReader, Write};
 use store_core::{Backend, Store};
 use stream_core::CountedWriter;
 
@@ -31,6 +31,7 @@ pub fn load_over<S: Backend + Drop, W: Write>(
     settings: &[u8],
     tables: Connection<S>,
     output: &mut CountedWriter<'_, W>,
+    progress: &mut Told<'_>,
 ) -> (u8, Option<Connection<S>>)
     requires closed { tables.in_transaction ≡ false }
     requires unfailed { has_write_failed output.old ≡ false }
@@ -40,7 +41,7 @@ pub fn load_over<S: Backend + Drop, W: Write>(
 {
     match open_desk(rt.alloc(), Store::adopt(tables), settings, output) {
         Ok(mut desk) => {
-            let status = load_lines(rt, plan, &mut desk, output);
+            let status = load_lines(rt, plan, &mut desk, output, progress);
             let (store, _) = desk.detach();
             (status, Some(store.release()))
         }
@@ -54,34 +55,18 @@ fn load_lines<S: Backend, W: Write>(
     plan: Plan,
     desk: &mut Desk<S>,
     output: &mut CountedWriter<'_, W>,
+    progress: &mut Told<'_>,
 ) -> u8
     requires { has_write_failed output.old ≡ false }
     ensures { HaveOneWriter output.new output.old }
 {
     match BufReader::new(rt.alloc(), rt.reader()) {
         Ok(mut input) => {
-            let loaded = load_from(rt, plan, desk, &mut input, output);
+            let loaded = load(rt.alloc(), desk, plan, &mut input, output, progress);
             status_of(plan, &loaded, output)
         }
         Err(_) => tell_input_fault(InputFault::Read, output),
     }
-}
-
-/// Loads the lines of a reader, and tells how far it came.
-fn load_from<S: Backend, R: Read, W: Write>(
-    rt: &HostRuntime,
-    plan: Plan,
-    desk: &mut Desk<S>,
-    input: &mut R,
-    output: &mut CountedWriter<'_, W>,
-) -> Loaded
-    requires { has_write_failed output.old ≡ false }
-    ensures { HaveOneWriter output.new output.old }
-{
-    let mut told = Told::new(rt, plan.passed);
-    let loaded = load(rt.alloc(), desk, plan, input, output, &mut told);
-    told.tell();
-    loaded
 }
 
 /// The exit status of a load. A failed read is told, and that it was to begin beyond the end.

@@ -24,9 +24,10 @@ const FAILED_WRITE: u8 = 4;
 
 /// `desk_load --db FILE --settings FILE` answers the lines of the standard input on the desk of that
 /// file, and prints each answer that tells more than that a command is done, with its line's number.
-/// With `--all` it prints each, with `--stop` the first refusal ends it, and with `--from N` it
-/// begins with line N. With `--check` it reads no line, and prints what is wrong first with the
-/// settings and the file. `--new-token PERSON`, alone, prints a line with a token for the settings.
+/// With `--all` it prints each, with `--stop` the first refusal ends it, with `--from N` it begins
+/// with line N, and with `--commit N` each N commands that are done are one transaction. With
+/// `--check` it reads no line, and prints what is wrong first with the settings and the file.
+/// `--new-token PERSON`, alone, prints a line with a token for the settings.
 /// `--help` and `--version` tell of it. All else is `bad words`.
 fn main(rt: HostRuntime) -> ExitCode {
     match words_of(&rt) {
@@ -56,7 +57,7 @@ fn run(rt: &HostRuntime, words: &[String]) -> u8 {
     }
     match asked_of(rt.alloc(), words) {
         Some(asked) => match asked.task {
-            Task::Load(plan) => tables::run(rt, &asked, plan),
+            Task::Load(plan, commit) => tables::run(rt, &asked, plan, commit),
             Task::Check => check::run(rt, &asked),
         },
         None => {

@@ -18,15 +18,20 @@ pub struct Asked<'w> {
 /// What is to be done with settings and tables.
 #[derive(Clone, Copy)]
 pub enum Task {
-    /// Lines are loaded: which are answered, and which answers are printed.
-    Load(Plan),
+    /// Lines are loaded: which are answered, which answers are printed, and how many commands that
+    /// are done are one transaction.
+    Load(Plan, u64),
     /// What is wrong first is told.
     Check,
 }
 
+/// How many commands may be one transaction.
+const MOST_TOGETHER: u64 = 100_000;
+
 /// What words ask of the program: `--db FILE --settings FILE`, and then `--check`, or maybe `--all`,
-/// `--stop` and `--from N`, in any order. None where they are other words, an option stands there
-/// twice, or N isn't written in digits alone as a number from 1 to the greatest u64.
+/// `--stop`, `--from N` and `--commit N`, in any order. None where they are other words, an option
+/// stands there twice, or N isn't written in digits alone as a number from 1 to the greatest u64, or
+/// with `--commit` to 100,000.
 pub fn asked_of<'w>(alloc: Global, words: &'w [String]) -> Option<Asked<'w>> {
     let Ok(command) = command_line(alloc) else {
         return None;
@@ -48,27 +53,31 @@ fn asked_by<'w>(matches: &ArgMatches<'w>) -> Option<Asked<'w>> {
 
 /// The task of the matches: a check has no word of a load beside it.
 fn task_by(matches: &ArgMatches<'_>) -> Option<Task> {
-    let from = matches.get_str("from");
+    let (from, commit) = (matches.get_str("from"), matches.get_str("commit"));
     let plan = Plan {
-        passed: passed_by(from)?,
+        passed: number_by(from, u64::MAX)?.checked_sub(1)?,
         all: matches.get_flag("all"),
         stop: matches.get_flag("stop"),
     };
     if !matches.get_flag("check") {
-        Some(Task::Load(plan))
-    } else if from.is_none() && !plan.all && !plan.stop {
+        Some(Task::Load(plan, number_by(commit, MOST_TOGETHER)?))
+    } else if from.is_none() && commit.is_none() && !plan.all && !plan.stop {
         Some(Task::Check)
     } else {
         None
     }
 }
 
-/// How many lines are passed over before the line of a number, if that is one; none of all, where
-/// there is no number.
-fn passed_by(word: Option<&str>) -> Option<u64> {
-    match word {
-        Some(word) => number_of(word)?.checked_sub(1),
-        None => Some(0),
+/// The number of a word, if it has one from 1 to the greatest; 1 where there is no word.
+fn number_by(word: Option<&str>, greatest: u64) -> Option<u64> {
+    let Some(word) = word else {
+        return Some(1);
+    };
+    let number = number_of(word)?;
+    if (1..=greatest).contains(&number) {
+        Some(number)
+    } else {
+        None
     }
 }
 
@@ -89,6 +98,7 @@ fn command_line<'w>(alloc: Global) -> Result<App<'w>, AllocError> {
     let command = command.arg(option(alloc, "db").required(true))?;
     let command = command.arg(option(alloc, "settings").required(true))?;
     let command = command.arg(option(alloc, "from"))?;
+    let command = command.arg(option(alloc, "commit"))?;
     let command = command.arg(flag(alloc, "all"))?;
     let command = command.arg(flag(alloc, "check"))?;
     command.arg(flag(alloc, "stop"))

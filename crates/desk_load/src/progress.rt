@@ -7,8 +7,8 @@ use std::time::{Clock, Duration};
 /// Of how many lines one is told.
 const EACH: u64 = 1_000;
 
-/// The last line that was answered, and so stands in the file: told at each 1,000 and at the end, and
-/// on a terminal once a second too.
+/// The last line that stands in the file with all before it, told at each 1,000 lines, on a terminal
+/// once a second too, and at the end.
 #[derive(Drop)]
 pub struct Told<'r> {
     rt: &'r HostRuntime,
@@ -18,6 +18,12 @@ pub struct Told<'r> {
     begun: Duration,
     /// The number of the last line that was answered, or of the last that was passed over.
     line: u64,
+    /// The number of the last line that stands in the file with all before it.
+    standing: u64,
+    /// How many commands that are done are one transaction.
+    commit: u64,
+    /// How many are missing for the next one.
+    left: u64,
     /// How many lines were answered.
     answered: u64,
     /// The second, counted from the beginning, in which it was told last.
@@ -26,20 +32,32 @@ pub struct Told<'r> {
 
 impl<'r> Told<'r> {
     /// Nothing was answered yet.
-    pub fn new(rt: &'r HostRuntime, passed: u64) -> Told<'r> {
+    pub fn new(rt: &'r HostRuntime, passed: u64, commit: u64) -> Told<'r> {
         Told {
             rt,
             is_watched: rt.stderr().is_terminal(),
             begun: now(rt),
             line: passed,
+            standing: passed,
+            commit,
+            left: commit,
             answered: 0,
             second: 0,
         }
     }
 
-    /// Tells the number of the last line, and how many were answered in a second.
-    pub fn tell(&self) {
-        let line = self.line;
+    /// Tells the last line that was answered, once all that is done stands in the file.
+    pub fn tell_end(&self) {
+        self.tell(self.line);
+    }
+
+    /// Tells the last line that stands in the file.
+    pub fn tell_standing(&self) {
+        self.tell(self.standing);
+    }
+
+    /// Tells the number of a line, and how many were answered in a second.
+    fn tell(&self, line: u64) {
         let millis = now(self.rt).saturating_sub(self.begun).as_millis().max(1);
         let rate = u128::from(self.answered) * 1_000 / millis;
         let _told = eprintln!(self.rt; "line {line}, {rate} lines a second");
@@ -50,17 +68,31 @@ impl<'r> Told<'r> {
         let second = now(self.rt).saturating_sub(self.begun).as_secs();
         if second > self.second {
             self.second = second;
-            self.tell();
+            self.tell_standing();
+        }
+    }
+
+    /// Counts a line. One by which nothing was done stands, if all before it do.
+    fn count(&mut self, line: u64, is_done: bool) {
+        self.line = line;
+        self.answered = self.answered.saturating_add(1);
+        if is_done {
+            self.left = self.left.saturating_sub(1);
+        }
+        if self.left == 0 {
+            self.left = self.commit;
+        }
+        if self.left == self.commit {
+            self.standing = line;
         }
     }
 }
 
 impl<'r> Progress for Told<'r> {
-    fn told(&mut self, line: u64) {
-        self.line = line;
-        self.answered = self.answered.saturating_add(1);
+    fn told(&mut self, line: u64, is_done: bool) {
+        self.count(line, is_done);
         if line % EACH == 0 {
-            self.tell();
+            self.tell_standing();
         } else if self.is_watched {
             self.tell_in_time();
         }

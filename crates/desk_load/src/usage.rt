@@ -13,6 +13,7 @@ Options:
   --all             Print each answer, and not only those that tell more than ok
   --stop            End at the first refusal
   --from N          Begin with line N
+  --commit N        Write N commands that are done as one transaction: a stop leaves all or none
   --check           Read no line: tell what is wrong first with the settings and the tables
   --new-token PERSON
                     Alone: print a new token for a person, as a line of the settings
@@ -20,12 +21,13 @@ Options:
   --version         Print the version, alone";
 
 /// The names of its options.
-pub const OPTIONS: [&str; 7] = [
+pub const OPTIONS: [&str; 8] = [
     "db",
     "settings",
     "all",
     "stop",
     "from",
+    "commit",
     "check",
     "new-token",
 ];

@@ -32,7 +32,7 @@ use Rattle.desk_model.specs.Facts.{no_facts}
 use Rattle.desk_model.specs.Lifecycles.{first_status, has_given, has_status, is_allowed}
 use Rattle.desk_model.specs.Lifecycles.{is_creatable, is_inactive, is_initial, opens_anew, right_of}
 use Rattle.desk_model.specs.Names.{in_order}
-use Rattle.desk_model.specs.Plan.{OneQueue, OneRequest, WholeDesk, is_reading, named_by, told_of}
+use Rattle.desk_model.specs.Plan.{OneQueue, OneRequest, WholeDesk, is_reading, named_by, answer_of_change}
 use Rattle.desk_model.specs.Plan.{topic_of}
 use Rattle.desk_model.specs.Readings.History.{is_comment}
 use Rattle.desk_model.specs.Refusals.{name_of, number_of}
@@ -471,10 +471,10 @@ taking_changes = refl
 link_names_both_ends : named_by (plan_of (command.Link 7 DependsOn 8)) ≡ 7 ∷ 8 ∷ []
 link_names_both_ends = refl
 
-filed_request_is_told : told_of (filing open_row [] []) ≡ answer.Created 7
+filed_request_is_told : answer_of_change (filing open_row [] []) ≡ answer.Created 7
 filed_request_is_told = refl
 
-comment_is_done : told_of (noting []) ≡ answer.Done
+comment_is_done : answer_of_change (noting []) ≡ answer.Done
 comment_is_done = refl
 
 -- Commands/Create.antt

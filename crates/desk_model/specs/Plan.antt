@@ -76,10 +76,10 @@ topic_on (OneQueue name) desk = facts_of_queue desk name
 topic_on (OneRequest id) desk = facts_on_request desk id
 
 -- what a plan looks at on a desk
-abbrev pub seen_by : Plan → Desk → Facts
-seen_by (Reads topic answer) desk = topic_on topic desk
-seen_by (OnQueue name beforehand conditions change) desk = facts_on_queue desk name
-seen_by (OnRequest id besides bad conditions change) desk = besides_on besides id desk
+abbrev pub facts_of_plan : Plan → Desk → Facts
+facts_of_plan (Reads topic answer) desk = topic_on topic desk
+facts_of_plan (OnQueue name beforehand conditions change) desk = facts_on_queue desk name
+facts_of_plan (OnRequest id besides bad conditions change) desk = besides_on besides id desk
 
 -- the request isn't there, or is hidden from the caller
 abbrev pub is_missing : Call → Option SeenRequest → Bool
@@ -164,13 +164,13 @@ abbrev pub filed_or_done : Option RequestRow → Answer
 filed_or_done None = answer.Done
 filed_or_done (Some row) = answer.Created row.id
 
-abbrev pub told_of : Change → Answer
-told_of change = filed_or_done change.filed
+abbrev pub answer_of_change : Change → Answer
+answer_of_change change = filed_or_done change.filed
 
 -- what a command answers where nothing refuses it
 abbrev pub answer_by : Call → Desk → Plan → Answer
 answer_by call desk (Reads topic answer) = answer call desk
-answer_by call desk plan = told_of (change_by call (seen_by plan desk) plan)
+answer_by call desk plan = answer_of_change (change_by call (facts_of_plan plan desk) plan)
 
 -- what a reading tells of a request, if it is there
 abbrev pub answer_of_request : Option Request → (Request → Answer) → Answer

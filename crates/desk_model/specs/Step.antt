@@ -7,7 +7,7 @@ use Rattle.desk_model.specs.Commands.{plan_of}
 use Rattle.desk_model.specs.Condition.{first_holding}
 use Rattle.desk_model.specs.Desk.{Desk}
 use Rattle.desk_model.specs.Plan.{Call, answer_by, change_by, conditions_beforehand, conditions_of}
-use Rattle.desk_model.specs.Plan.{seen_by}
+use Rattle.desk_model.specs.Plan.{facts_of_plan}
 use Rattle.desk_model.specs.declared.answer.Answer.{Answer}
 use Rattle.desk_model.specs.declared.command.Command.{Command}
 use Rattle.desk_model.specs.declared.facts.Facts.{Facts}
@@ -19,7 +19,7 @@ call settings at caller = record { settings = settings; at = at; caller = caller
 
 -- what a command looks at on a desk
 abbrev pub facts_of : Command → Desk → Facts
-facts_of command desk = seen_by (plan_of command) desk
+facts_of command desk = facts_of_plan (plan_of command) desk
 
 -- the refusal that a command meets on every desk, if there is one
 abbrev pub refusal_beforehand : Settings → ℕ → List ℕ → Command → Option Refusal

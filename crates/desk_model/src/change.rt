@@ -4,7 +4,7 @@ ghost use Rattle.std.specs.Prelude.{◌≡◌, option_and_then, IfOk};
 ghost use Rattle.desk_model.specs.Change as change;
 ghost use Rattle.desk_model.specs.Due as due;
 ghost use Rattle.desk_model.specs.Dated.{dated, due_in_queue, either_row, stays_put};
-ghost use Rattle.desk_model.specs.Plan.{told_of};
+ghost use Rattle.desk_model.specs.Plan.{answer_of_change};
 
 use crate::answer::Answer;
 use crate::due::due_of;
@@ -45,7 +45,7 @@ impl Change {
     /// What a command that makes this change answers: the number of the request that it files, or
     /// that it is done.
     pub fn answer(&self) -> Answer
-        ensures { result ≡ told_of self.now }
+        ensures { result ≡ answer_of_change self.now }
     {
         match &self.filed {
             Some(row) => Answer::Created(row.id),

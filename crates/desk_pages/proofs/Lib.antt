@@ -7,7 +7,6 @@ pub mod Frames
 pub mod Histories
 pub mod Homes
 pub mod Known
-pub mod Lates
 pub mod Linked
 pub mod Listed
 pub mod Loads

@@ -37,10 +37,10 @@ same_cells : (found another : Found) → SameMarkup (cells found) (cells another
 unfolding cells through
 same_cells found another = same_filled ROW_CELLS.now refl _ _ _
 
-same_row_end : (late now : Bool) (last another : ℕ) → late ≡ now
-    → SameMarkup (row_end late last) (row_end now another)
+same_row_end : (late now : Bool) (by more last another : ℕ) → late ≡ now
+    → SameMarkup (row_end late by last) (row_end now more another)
 unfolding row_end through
-same_row_end late now last another same =
+same_row_end late now by more last another same =
     same_flags ROW_END.now refl _ _ _ _ (ap (λ flag. flag ∷ []) same)
 
 same_row : (caller other : List ℕ) (moment later : ℕ) (found another : Found)
@@ -54,7 +54,7 @@ same_row caller other moment later found another same =
     same))
     (same_both (same_cells found another)
     (same_both (same_due found.due another.due (ap (λ told. told.1) same))
-    (same_row_end _ _ found.last another.last (ap (λ told. told.2) same)))))
+    (same_row_end _ _ _ _ found.last another.last (ap (λ told. told.2) same)))))
 
 pub same_table : (caption title caller other : List ℕ) (moment later : ℕ) (rows others : List Found)
     → rows_told moment rows ≡ rows_told later others

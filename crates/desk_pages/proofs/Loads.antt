@@ -8,9 +8,11 @@ use Rattle.desk_texts.specs.Texts.Workload.{all_overdue}
 use Rattle.page_core.specs.Markup.{SameMarkup}
 use Rattle.page_core.specs.Template.{filled_from, markup_in, through}
 use Rattle.page_core.proofs.Same.{same_both, same_filled, same_flags, same_rows, same_shape}
-use Rattle.desk_pages.specs.Workload.{is_any, late_told, load_row, most, total, workload_page}
+use Rattle.desk_pages.specs.Workload.{bars, is_any, late_told, load_row, load_row_of, most, total}
+use Rattle.desk_pages.specs.Workload.{workload_page}
 use Rattle.desk_pages.specs.declared.frame.Place.TheVariants.{Workload}
-use Rattle.desk_pages.specs.declared.markup.workload.TheConstants.{LOAD_ROW, LOAD_TOP, LOAD_TOTAL}
+use Rattle.desk_pages.specs.declared.markup.workload.TheConstants.{LOAD_BARS, LOAD_ROW}
+use Rattle.desk_pages.specs.declared.markup.workload.TheConstants.{LOAD_TOP, LOAD_TOTAL}
 use Rattle.desk_pages.proofs.Frames.{same_bottom, same_top}
 
 -- whose it is, is told in a value alone
@@ -29,11 +31,11 @@ of_whom false false late = refl
 same_row : (caller other : List ℕ) (whole scale : ℕ) (load another : Load)
     → is_any load.overdue ≡ is_any another.overdue
     → SameMarkup (load_row caller whole load) (load_row other scale another)
-unfolding load_row through
+unfolding bars load_row_of through
 same_row caller other whole scale load another late =
-    same_shape LOAD_ROW.now refl _ _ _ _
+    same_both (same_shape LOAD_ROW.now refl _ _ _ _
     (of_whom _ _ _ ∙ ap (λ flag. markup_in LOAD_ROW.now (false ∷ false ∷ flag ∷ [])) late
-    ∙ sym (of_whom _ _ _))
+    ∙ sym (of_whom _ _ _))) (same_filled LOAD_BARS.now refl _ _ _)
 
 same_total : (loads others : List Load) → is_any (all_overdue loads) ≡ is_any (all_overdue others)
     → SameMarkup (total loads) (total others)

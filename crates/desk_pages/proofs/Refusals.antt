@@ -6,7 +6,6 @@ use Rattle.page_core.specs.Markup.{SameMarkup}
 use Rattle.page_core.specs.Page.{Part}
 use Rattle.page_core.specs.Template.{through}
 use Rattle.page_core.proofs.Same.{same_both, same_filled, same_flags}
-use Rattle.desk_pages.specs.Ask.{usual_told}
 use Rattle.desk_pages.specs.Frame.{top}
 use Rattle.desk_pages.specs.RefusalPage.{ask_refusal_page, comment_refusal_page, filed_page}
 use Rattle.desk_pages.specs.RefusalPage.{is_found}
@@ -18,7 +17,7 @@ use Rattle.desk_pages.specs.declared.frame.Place.TheVariants.{Elsewhere}
 use Rattle.desk_pages.specs.declared.markup.refused.TheConstants.{CRUMB, FILED_NOTE, NOTICE}
 use Rattle.desk_pages.specs.declared.markup.refused.TheConstants.{REPLIED_NOTE, TO_QUEUE, TO_QUEUES}
 use Rattle.desk_pages.specs.declared.markup.refused.TheConstants.{TO_REQUEST, TYPED_END, TYPED_TOP}
-use Rattle.desk_pages.proofs.Asks.{same_ask}
+use Rattle.desk_pages.proofs.Asks.{same_ask_again}
 use Rattle.desk_pages.proofs.Frames.{same_bottom, same_top}
 use Rattle.desk_pages.proofs.Writes.{same_comment, same_reply}
 
@@ -28,17 +27,13 @@ unfolding notice through
 same_notice front words why other same =
     same_flags NOTICE.now refl _ _ _ _ (ap (λ flag. flag ∷ []) same)
 
-same_crumb : (found known : Bool) (id another : ℕ) → found ≡ known
-    → SameMarkup (crumb found id) (crumb known another)
+same_crumb : (id another : ℕ) → SameMarkup (crumb id) (crumb another)
 unfolding crumb through
-same_crumb found known id another same =
-    same_flags CRUMB.now refl _ _ _ _ (ap (λ flag. flag ∷ []) same)
+same_crumb id another = same_filled CRUMB.now refl _ _ _
 
-same_to_request : (found known : Bool) (id another : ℕ) → found ≡ known
-    → SameMarkup (to_request found id) (to_request known another)
+same_to_request : (id another : ℕ) → SameMarkup (to_request id) (to_request another)
 unfolding to_request through
-same_to_request found known id another same =
-    same_flags TO_REQUEST.now refl _ _ _ _ (ap (λ flag. flag ∷ not flag ∷ []) same)
+same_to_request id another = same_filled TO_REQUEST.now refl _ _ _
 
 same_to_queue : (found known : Bool) (queue other : List ℕ) → found ≡ known
     → SameMarkup (to_queue found queue) (to_queue known other)
@@ -69,60 +64,58 @@ refusal_same why other caller another moment later denied =
     (same_both (same_filled TO_QUEUES.now refl _ _ _) (same_bottom moment later)))
 
 pub request_refusal_same : (why other : Refusal) (caller another : List ℕ) (moment later id n : ℕ)
-    → is_denied why ≡ is_denied other → is_found why ≡ is_found other
+    → is_denied why ≡ is_denied other
     → SameMarkup (request_refusal_page why caller moment id) (request_refusal_page other another
     later n)
-request_refusal_same why other caller another moment later id n denied found =
+request_refusal_same why other caller another moment later id n denied =
     same_both (same_refused why other caller another)
-    (same_both (same_crumb (is_found why) (is_found other) id n found)
+    (same_both (same_crumb id n)
     (same_both (same_notice (front_of why) (front_of other) why other denied)
-    (same_both (same_to_request (is_found why) (is_found other) id n found) (same_bottom moment
+    (same_both (same_to_request id n) (same_bottom moment
     later))))
 
 same_typed_page : (why other : Refusal) (caller another : List ℕ) (moment later id n : ℕ)
-    (form others : List Part) → is_denied why ≡ is_denied other → is_found why ≡ is_found other
-    → SameMarkup form others
+    (form others : List Part) → is_denied why ≡ is_denied other → SameMarkup form others
     → SameMarkup (typed_page why caller moment id form) (typed_page other another later n others)
-same_typed_page why other caller another moment later id n form others denied found same =
+same_typed_page why other caller another moment later id n form others denied same =
     same_both (same_refused why other caller another)
-    (same_both (same_crumb (is_found why) (is_found other) id n found)
+    (same_both (same_crumb id n)
     (same_both (same_notice (front_of why) (front_of other) why other denied)
     (same_both (same_typed same)
-    (same_both (same_to_request (is_found why) (is_found other) id n found) (same_bottom moment
+    (same_both (same_to_request id n) (same_bottom moment
     later)))))
 
 pub reply_refusal_same : (why other : Refusal) (caller another : List ℕ) (moment later id n : ℕ)
     (text words : List ℕ) (status chosen : Option (List ℕ))
-    → is_denied why ≡ is_denied other → is_found why ≡ is_found other
-    → is_some status ≡ is_some chosen
+    → is_denied why ≡ is_denied other → is_some status ≡ is_some chosen
     → SameMarkup (reply_refusal_page why caller moment id text status)
     (reply_refusal_page other another later n words chosen)
 reply_refusal_same why other caller another moment later id n text words status chosen denied
-    found same =
-    same_typed_page why other caller another moment later id n _ _ denied found
+    same =
+    same_typed_page why other caller another moment later id n _ _ denied
     (same_reply id n text words status chosen true same)
 
 pub comment_refusal_same : (why other : Refusal) (caller another : List ℕ) (moment later id n : ℕ)
-    (text words : List ℕ) → is_denied why ≡ is_denied other → is_found why ≡ is_found other
+    (text words : List ℕ) → is_denied why ≡ is_denied other
     → SameMarkup (comment_refusal_page why caller moment id text)
     (comment_refusal_page other another later n words)
-comment_refusal_same why other caller another moment later id n text words denied found =
-    same_typed_page why other caller another moment later id n _ _ denied found
+comment_refusal_same why other caller another moment later id n text words denied =
+    same_typed_page why other caller another moment later id n _ _ denied
     (same_comment id n text words)
 
 pub ask_refusal_same : (why other : Refusal) (caller another : List ℕ) (moment later : ℕ)
-    (queue place subject line text words requestors persons usual first : List ℕ)
-    (statuses names : List (List ℕ))
+    (queue place subject line text words requestors persons : List ℕ)
+    (status chosen : Option (List ℕ))
     → is_denied why ≡ is_denied other → is_found why ≡ is_found other
-    → usual_told usual statuses ≡ usual_told first names
-    → SameMarkup (ask_refusal_page why caller moment queue subject text requestors usual statuses)
-    (ask_refusal_page other another later place line words persons first names)
+    → is_some status ≡ is_some chosen
+    → SameMarkup (ask_refusal_page why caller moment queue subject text requestors status)
+    (ask_refusal_page other another later place line words persons chosen)
 ask_refusal_same why other caller another moment later queue place subject line text words
-    requestors persons usual first statuses names denied found same =
+    requestors persons status chosen denied found same =
     same_both (same_refused why other caller another)
     (same_both (same_notice (front_of why) (front_of other) why other denied)
-    (same_both (same_ask queue place caller another subject line text words requestors persons usual
-    first statuses names same)
+    (same_both (same_ask_again queue place caller another subject line text words requestors persons
+    status chosen same)
     (same_both (same_to_queue (is_found why) (is_found other) queue place found)
     (same_bottom moment later))))
 
@@ -132,11 +125,11 @@ pub filed_same : (why other : Refusal) (caller another : List ℕ) (moment later
 unfolding through
 filed_same why other caller another moment later id n text words denied =
     same_both (same_refused why other caller another)
-    (same_both (same_crumb true true id n refl)
+    (same_both (same_crumb id n)
     (same_both (same_notice (front_after why) (front_after other) why other denied)
     (same_both (same_filled FILED_NOTE.now refl _ _ _)
     (same_both (same_typed (same_reply id n text words None None false refl))
-    (same_both (same_to_request true true id n refl) (same_bottom moment later))))))
+    (same_both (same_to_request id n) (same_bottom moment later))))))
 
 pub replied_same : (why other : Refusal) (caller another : List ℕ) (moment later id n : ℕ)
     (status chosen : List ℕ) → is_denied why ≡ is_denied other
@@ -145,7 +138,7 @@ pub replied_same : (why other : Refusal) (caller another : List ℕ) (moment lat
 unfolding through
 replied_same why other caller another moment later id n status chosen denied =
     same_both (same_refused why other caller another)
-    (same_both (same_crumb true true id n refl)
+    (same_both (same_crumb id n)
     (same_both (same_notice (front_after why) (front_after other) why other denied)
     (same_both (same_filled REPLIED_NOTE.now refl _ _ _)
-    (same_both (same_to_request true true id n refl) (same_bottom moment later)))))
+    (same_both (same_to_request id n) (same_bottom moment later)))))

@@ -1,35 +1,48 @@
 -- The markup of the page of a request.
-use Rattle.std.proofs.Common.{◌≡◌, ℕ, false, List, [], Option, is_some, refl, ap}
+use Rattle.std.proofs.Common.{◌≡◌, ℕ, Bool, false, not, ◌&&◌, List, [], ◌∷◌, Option, is_some}
+use Rattle.std.proofs.Common.{refl, ap}
 use Rattle.settings_core.specs.declared.settings.Settings.{Settings}
 use Rattle.desk_model.specs.declared.answer.Dossier.{Dossier}
 use Rattle.desk_model.specs.declared.rows.RequestRow.{RequestRow}
 use Rattle.page_core.specs.Markup.{SameMarkup}
 use Rattle.page_core.specs.Template.{through}
-use Rattle.page_core.proofs.Same.{same_both, same_filled}
-use Rattle.desk_pages.specs.Change.{is_open}
+use Rattle.page_core.proofs.Same.{same_both, same_filled, same_flags}
 use Rattle.desk_pages.specs.Request.{closing_for, request_page, request_title, request_told}
-use Rattle.desk_pages.specs.Request.{request_top, writing}
+use Rattle.desk_pages.specs.Request.{commenting, request_top, writing}
+use Rattle.desk_pages.specs.Rights.{may_comment, may_modify, may_reply}
 use Rattle.desk_pages.specs.declared.frame.Place.TheVariants.{Elsewhere}
-use Rattle.desk_pages.specs.declared.markup.request.TheConstants.{COMMENT_TOP, REPLY_TOP}
+use Rattle.desk_pages.specs.declared.markup.request.TheConstants.{COMMENT_END, COMMENT_TOP}
+use Rattle.desk_pages.specs.declared.markup.request.TheConstants.{REPLY_TOP}
 use Rattle.desk_pages.specs.declared.markup.request.TheConstants.{REQUEST_TOP, WRITING_END}
 use Rattle.desk_pages.proofs.Changes.{same_change}
 use Rattle.desk_pages.proofs.Frames.{same_bottom, same_top}
 use Rattle.desk_pages.proofs.Histories.{same_history}
 use Rattle.desk_pages.proofs.Known.{same_facts}
+use Rattle.desk_pages.proofs.Tables.{same_when}
 use Rattle.desk_pages.proofs.Writes.{same_comment, same_reply}
 
 same_request_top : (row line : RequestRow) → SameMarkup (request_top row) (request_top line)
 unfolding request_top through
 same_request_top row line = same_filled REQUEST_TOP.now refl _ _ _
 
-same_writing : (id another : ℕ) (status other : Option (List ℕ)) → is_some status ≡ is_some other
-    → SameMarkup (writing id status) (writing another other)
+same_commenting : (id another : ℕ) (replies now : Bool) → replies ≡ now
+    → SameMarkup (commenting id replies) (commenting another now)
+unfolding commenting through
+same_commenting id another replies now same =
+    same_both (same_flags COMMENT_TOP.now refl _ _ _ _ (ap (λ flag. not flag ∷ flag ∷ []) same))
+    (same_both (same_comment id another [] []) (same_filled COMMENT_END.now refl _ _ _))
+
+same_writing : (id another : ℕ) (status other : Option (List ℕ)) (replies now comments too : Bool)
+    → is_some status ≡ is_some other → replies ≡ now → comments ≡ too
+    → SameMarkup (writing id status replies comments) (writing another other now too)
 unfolding writing through
-same_writing id another status other same =
+same_writing id another status other replies now comments too same reply comment =
     same_both (same_filled REPLY_TOP.now refl _ _ _)
-    (same_both (same_reply id another [] [] status other false same)
-    (same_both (same_filled COMMENT_TOP.now refl _ _ _)
-    (same_both (same_comment id another [] []) (same_filled WRITING_END.now refl _ _ _))))
+    (same_both (same_when replies now _ _ reply (same_reply id another [] [] status other false same))
+    (same_both (same_when comments too _ _ comment (same_commenting id another replies now reply))
+    (same_flags WRITING_END.now refl _ _ _ _
+    (let none : not replies && not comments ≡ not now && not too = cc in
+    ap (λ flag. flag ∷ []) none))))
 
 pub request_same : (caller other : List ℕ) (moment later : ℕ) (settings rules : Settings)
     (dossier file : Dossier)
@@ -45,11 +58,15 @@ request_same caller other moment later settings rules dossier file same =
     (same_both
     (same_both
     (same_both (same_request_top row line)
-    (same_both (same_facts (is_open caller dossier.shown) (is_open other file.shown) row.id line.id
-    moment later settings rules dossier file opened (ap (λ told. told.facts) same))
+    (same_both (same_facts (may_modify settings dossier.shown caller)
+    (may_modify rules file.shown other) row.id line.id moment later settings rules dossier file
+    (ap (λ told. told.modifies) same) (ap (λ told. told.facts) same))
     (same_history dossier.entries file.entries (ap (λ told. told.kinds) same))))
     (same_both (same_writing row.id line.id (closing_for caller settings dossier)
-    (closing_for other rules file) (ap (λ told. told.closing) same))
+    (closing_for other rules file) (may_reply settings dossier.shown caller)
+    (may_reply rules file.shown other) (may_comment settings dossier.shown caller)
+    (may_comment rules file.shown other) (ap (λ told. told.closing) same)
+    (ap (λ told. told.replies) same) (ap (λ told. told.comments) same))
     (same_change caller other settings rules dossier file opened
     (ap (λ told. told.facts.many) same) (ap (λ told. told.change) same))))
     (same_bottom moment later))

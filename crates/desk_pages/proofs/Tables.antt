@@ -47,3 +47,11 @@ same_if true true told tells parts others same each = let e : told ≡ tells = c
 same_if true false told tells parts others same each = absurd (cc)
 same_if false true told tells parts others same each = absurd (cc)
 same_if false false told tells parts others same each = same_none
+
+-- what stands there where something holds, in both
+pub same_when : (holds held : Bool) (parts others : List Part) → holds ≡ held
+    → SameMarkup parts others → SameMarkup (parts_if holds parts) (parts_if held others)
+same_when true true parts others same each = each
+same_when true false parts others same each = nowhere same
+same_when false true parts others same each = never same
+same_when false false parts others same each = same_none

@@ -1,67 +1,57 @@
 -- The page of a search: what is sought, and what was found.
-use Rattle.std.specs.Prelude.{ℕ, Bool, true, false, not, List, [], ◌∷◌, ◌++◌, Option, unwrap_or}
-use Rattle.std.specs.Prelude.{codes, decimal, if◌then◌else◌, is_some}
-use Rattle.std.specs.Option.{option_map}
-use Rattle.find_core.specs.declared.search.Place.{Place}
-use Rattle.find_form.specs.Address.{place_text}
-use Rattle.find_form.specs.Sought.{is_empty}
+use Rattle.std.specs.Prelude.{ℕ, ◌==◌, Bool, true, not, ◌&&◌, ◌||◌, List, [], ◌∷◌, ◌++◌, Option}
+use Rattle.std.specs.Prelude.{codes}
+use Rattle.find_form.specs.Sought.{is_word}
 use Rattle.find_form.specs.declared.form.FindForm.{FindForm}
 use Rattle.find_form.specs.declared.shown.FoundPage.{FoundPage}
 use Rattle.find_form.specs.declared.shown.Start.{Start}
-use Rattle.find_form.specs.declared.shown.Start.TheVariants.{First}
 use Rattle.page_core.specs.Page.{Part}
 use Rattle.page_core.specs.Template.{filled}
+use Rattle.desk_pages.specs.Chips.{chips, chips_told}
 use Rattle.desk_pages.specs.Frame.{bottom, top}
+use Rattle.desk_pages.specs.Paging.{again_told, is_first, paging, paging_again, paging_told}
+use Rattle.desk_pages.specs.Pills.{chosen_of, pills}
 use Rattle.desk_pages.specs.Rows.{rows_told, table}
 use Rattle.desk_pages.specs.Search.{chosen_in, search_form}
+use Rattle.desk_pages.specs.Sought.{heading_of, is_set, place_of, title_of}
 use Rattle.desk_pages.specs.declared.find.TheConstants.{CAPTION}
+use Rattle.desk_pages.specs.declared.frame.Place.{Place}
 use Rattle.desk_pages.specs.declared.frame.Place.TheVariants as place
-use Rattle.desk_pages.specs.declared.markup.find.TheConstants.{FIND_FAULT, FIND_TOP, FOUND_TOP}
+use Rattle.desk_pages.specs.declared.markup.find.TheConstants.{FIND_FAULT, FIND_TOP}
 
 abbrev pub title : List ℕ
 title = codes "Find"
 
--- what is sought in a queue is called by it
-abbrev pub title_of : List ℕ → List ℕ
-title_of queue = if is_empty queue then title else queue
+-- the heading, and in a queue the ways to the queues and to a new request
+unfoldable pub heading : FindForm → List Part
+heading form =
+    filled FIND_TOP.now (heading_of form ∷ form.queue ∷ [])
+    (is_word form.queue ∷ is_word form.queue ∷ [])
 
--- the heading; of what is sought in a queue, with its other lists
-unfoldable pub find_top : List ℕ → List Part
-find_top queue =
-    filled FIND_TOP.now (queue ∷ queue ∷ queue ∷ queue ∷ queue ∷ [])
-    (is_empty queue ∷ not (is_empty queue) ∷ [])
+-- what stands above the content, with what is sought in the title, and the heading
+unfoldable pub find_top : List ℕ → FindForm → List Part
+find_top caller form = top (title_of form) (place_of form) caller ++ heading form
 
-abbrev pub is_first : Start → Bool
-is_first First = true
-is_first other = false
+-- the form is unfolded where nothing is sought yet, and where nothing was found
+abbrev pub is_unfolded : Start → FindForm → FoundPage → Bool
+is_unfolded start form page =
+    (page.count == 0) || (is_first start && not (is_set form))
 
--- from where on, in an address; nothing where there is no such page
-abbrev pub place_or_none : Option Place → List ℕ
-place_or_none place = unwrap_or (option_map place_text place) []
+-- what was found, and which of it the page shows above it, and below it too where there are other
+-- pages
+unfoldable pub found : List ℕ → ℕ → List ℕ → Start → FoundPage → List Part
+found caller moment query start page =
+    paging query start page
+    ++ (table CAPTION.now caller moment page.rows ++ paging_again query start page)
 
--- which of the ways there are: to the first page, to the page before this one, to that after it
-abbrev pub ways : Start → FoundPage → List Bool
-ways start page =
-    not (is_first start) ∷ is_some page.earlier ∷ is_some page.later ∷ []
-
--- how many there are, and the ways to other pages of them
-unfoldable pub links : List ℕ → List ℕ → List ℕ → Start → FoundPage → List Part
-links query earlier later start page =
-    filled FOUND_TOP.now (decimal page.count ∷ query ∷ earlier ∷ query ∷ later ∷ query ∷ [])
-    (ways start page)
-
-abbrev pub turns : List ℕ → Start → FoundPage → List Part
-turns query start page =
-    links query (place_or_none page.earlier) (place_or_none page.later) start page
-
--- what was found by these fields, from there on
+-- what is sought by these fields, and what was found, from there on
 abbrev pub find_page : List ℕ → ℕ → List ℕ → Start → FindForm → FoundPage → List Part
 find_page caller moment query start form page =
-    top (title_of form.queue) place.Find caller
-    ++ (find_top form.queue
-    ++ (search_form false form
-    ++ (turns query start page
-    ++ (table CAPTION.now caller moment page.rows ++ bottom moment))))
+    find_top caller form
+    ++ (chips query form
+    ++ (pills query form
+    ++ (search_form (is_unfolded start form page) form
+    ++ (found caller moment query start page ++ bottom moment))))
 
 -- nothing is sought, for this reason; the form has what was typed
 abbrev pub find_fault_page : List ℕ → ℕ → List ℕ → FindForm → List Part
@@ -69,19 +59,31 @@ find_fault_page caller moment sentence form =
     top title place.Find caller
     ++ (filled FIND_FAULT.now (sentence ∷ []) [] ++ (search_form true form ++ bottom moment))
 
--- what the markup of what was found tells: what was ticked and chosen, whether it is sought in a
--- queue, which ways there are to other pages, and what is told of the rows
+-- what the markup of what was found tells: which list it is, and whether it is of a queue; whether it
+-- is told what is sought, and which parts of it there are; which choices are the present ones;
+-- whether the form is unfolded, and what is ticked and chosen in it; which other pages there are, and
+-- what is told of the page; and what is told of the rows
 pub record FoundTold : Type 0 where
+  pub place : Place
+  pub of_queue : Bool
+  pub parts : Option (List Bool)
   pub chosen : List Bool
-  pub plain : Bool
-  pub ways : List Bool
+  pub unfolded : Bool
+  pub typed : List Bool
+  pub paging : List Bool
+  pub again : Option (List Bool)
   pub rows : List (ℕ × Bool × Bool)
 
 abbrev pub found_told : ℕ → Start → FindForm → FoundPage → FoundTold
 found_told moment start form page =
     record {
-      chosen = chosen_in form;
-      plain = is_empty form.queue;
-      ways = ways start page;
+      place = place_of form;
+      of_queue = is_word form.queue;
+      parts = chips_told form;
+      chosen = chosen_of form;
+      unfolded = is_unfolded start form page;
+      typed = chosen_in form;
+      paging = paging_told start page;
+      again = again_told start page;
       rows = rows_told moment page.rows;
     }

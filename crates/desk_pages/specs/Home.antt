@@ -32,12 +32,12 @@ lists caller moment own asked =
     ++ (section OWN.now OWN_QUERY.now caller moment own
     ++ section ASKED.now ASKED_QUERY.now caller moment asked)
 
--- the queues
+-- the queues, with links to what is counted
 unfoldable pub queue_row : QueueLoad → List Part
 queue_row load =
     filled QUEUE_ROW.now
-    (load.queue.name ∷ load.queue.name ∷ decimal load.«open» ∷ decimal load.late
-    ∷ unwrap_or load.queue.level dash ∷ load.queue.name ∷ load.queue.name ∷ [])
+    (load.queue.name ∷ load.queue.name ∷ load.queue.name ∷ decimal load.«open»
+    ∷ load.queue.name ∷ decimal load.late ∷ unwrap_or load.queue.level dash ∷ load.queue.name ∷ load.queue.name ∷ [])
     (is_any load.late ∷ [])
 
 unfoldable pub queues : List QueueLoad → List Part

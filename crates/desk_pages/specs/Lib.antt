@@ -1,5 +1,6 @@
 pub mod Ask
 pub mod Change
+pub mod Chips
 pub mod Facts
 pub mod Fault
 pub mod Fields
@@ -11,16 +12,19 @@ pub mod Lists
 pub mod Local
 pub mod Moves
 pub mod New
-pub mod Overdue
 pub mod Owner
 pub mod Owners
+pub mod Paging
 pub mod People
 pub mod Pieces
+pub mod Pills
 pub mod RefusalPage
 pub mod Refused
 pub mod Request
+pub mod Rights
 pub mod Rows
 pub mod Search
 pub mod SignIn
+pub mod Sought
 pub mod Workload
 pub mod Write

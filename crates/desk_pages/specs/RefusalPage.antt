@@ -4,7 +4,7 @@ use Rattle.desk_model.specs.declared.refusal.Refusal.{Refusal}
 use Rattle.desk_model.specs.declared.refusal.Refusal.TheVariants as refusal
 use Rattle.page_core.specs.Page.{Part}
 use Rattle.page_core.specs.Template.{filled}
-use Rattle.desk_pages.specs.Ask.{ask}
+use Rattle.desk_pages.specs.Ask.{ask_again}
 use Rattle.desk_pages.specs.Frame.{bottom, top}
 use Rattle.desk_pages.specs.Refused.{crumb, heading_of, notice_after, notice_of, to_queue}
 use Rattle.desk_pages.specs.Refused.{to_request}
@@ -24,12 +24,12 @@ refusal_page why caller moment =
     top (heading_of why) place.Elsewhere caller
     ++ (notice_of why ++ (filled TO_QUEUES.now [] [] ++ bottom moment))
 
--- a command on a request is refused
+-- a command on a request is refused: the way back is to that, also where it isn't there
 abbrev pub request_refusal_page : Refusal → List ℕ → ℕ → ℕ → List Part
 request_refusal_page why caller moment id =
     top (heading_of why) place.Elsewhere caller
-    ++ (crumb (is_found why) id
-    ++ (notice_of why ++ (to_request (is_found why) id ++ bottom moment)))
+    ++ (crumb id
+    ++ (notice_of why ++ (to_request id ++ bottom moment)))
 
 -- a form in which a text was typed
 abbrev pub typed : List Part → List Part
@@ -39,8 +39,8 @@ typed form = filled TYPED_TOP.now [] [] ++ (form ++ filled TYPED_END.now [] [])
 abbrev pub typed_page : Refusal → List ℕ → ℕ → ℕ → List Part → List Part
 typed_page why caller moment id form =
     top (heading_of why) place.Elsewhere caller
-    ++ (crumb (is_found why) id
-    ++ (notice_of why ++ (typed form ++ (to_request (is_found why) id ++ bottom moment))))
+    ++ (crumb id
+    ++ (notice_of why ++ (typed form ++ (to_request id ++ bottom moment))))
 
 -- and the status that was chosen
 abbrev pub reply_refusal_page : Refusal → List ℕ → ℕ → ℕ → List ℕ → Option (List ℕ) → List Part
@@ -51,13 +51,14 @@ abbrev pub comment_refusal_page : Refusal → List ℕ → ℕ → ℕ → List 
 comment_refusal_page why caller moment id text =
     typed_page why caller moment id (comment id text)
 
--- a new request is refused: the form has the subject, the text and the requestors that were typed
-abbrev pub ask_refusal_page : Refusal → List ℕ → ℕ → List ℕ → List ℕ → List ℕ → List ℕ → List ℕ
-    → List (List ℕ) → List Part
-ask_refusal_page why caller moment queue subject text requestors usual statuses =
+-- a new request is refused: the form has the subject, the text and the requestors that were typed, and
+-- the status that was chosen
+abbrev pub ask_refusal_page : Refusal → List ℕ → ℕ → List ℕ → List ℕ → List ℕ → List ℕ
+    → Option (List ℕ) → List Part
+ask_refusal_page why caller moment queue subject text requestors status =
     top (heading_of why) place.Elsewhere caller
     ++ (notice_of why
-    ++ (ask queue caller subject text requestors usual statuses
+    ++ (ask_again queue caller subject text requestors status
     ++ (to_queue (is_found why) queue ++ bottom moment)))
 
 -- ---- of two commands the second is refused
@@ -66,15 +67,15 @@ ask_refusal_page why caller moment queue subject text requestors usual statuses 
 abbrev pub filed_page : Refusal → List ℕ → ℕ → ℕ → List ℕ → List Part
 filed_page why caller moment id text =
     top (heading_of why) place.Elsewhere caller
-    ++ (crumb true id
+    ++ (crumb id
     ++ (notice_after why
     ++ (filled FILED_NOTE.now (decimal id ∷ []) []
-    ++ (typed (reply id text None false) ++ (to_request true id ++ bottom moment)))))
+    ++ (typed (reply id text None false) ++ (to_request id ++ bottom moment)))))
 
 -- a reply is sent, and the move to this status is refused
 abbrev pub replied_page : Refusal → List ℕ → ℕ → ℕ → List ℕ → List Part
 replied_page why caller moment id status =
     top (heading_of why) place.Elsewhere caller
-    ++ (crumb true id
+    ++ (crumb id
     ++ (notice_after why
-    ++ (filled REPLIED_NOTE.now (status ∷ []) [] ++ (to_request true id ++ bottom moment))))
+    ++ (filled REPLIED_NOTE.now (status ∷ []) [] ++ (to_request id ++ bottom moment))))

@@ -9,15 +9,15 @@ use Rattle.desk_pages.specs.Pieces.{quote}
 use Rattle.desk_pages.specs.declared.markup.refused.TheConstants.{CRUMB, NOTICE, TO_QUEUE}
 use Rattle.desk_pages.specs.declared.markup.refused.TheConstants.{TO_REQUEST}
 
--- the way to the request, where that is there
-unfoldable pub crumb : Bool → ℕ → List Part
-crumb found id = filled CRUMB.now (decimal id ∷ decimal id ∷ []) (found ∷ [])
+-- the way to the request
+unfoldable pub crumb : ℕ → List Part
+crumb id = filled CRUMB.now (decimal id ∷ decimal id ∷ []) []
 
--- the way back to the request or the queue, or to the queues where it isn't there
-unfoldable pub to_request : Bool → ℕ → List Part
-to_request found id =
-    filled TO_REQUEST.now (decimal id ∷ decimal id ∷ []) (found ∷ not found ∷ [])
+-- the way back to the request
+unfoldable pub to_request : ℕ → List Part
+to_request id = filled TO_REQUEST.now (decimal id ∷ decimal id ∷ []) []
 
+-- the way back to the queue, or to the queues where it isn't there
 unfoldable pub to_queue : Bool → List ℕ → List Part
 to_queue found queue = filled TO_QUEUE.now (queue ∷ queue ∷ []) (found ∷ not found ∷ [])
 

@@ -1,5 +1,6 @@
 -- The page of a request: what is known of it, what happened, and what may be written to it.
-use Rattle.std.specs.Prelude.{ℕ, Bool, false, if◌then◌else◌, List, [], ◌∷◌, ◌++◌, Option, None}
+use Rattle.std.specs.Prelude.{ℕ, Bool, false, not, ◌&&◌, if◌then◌else◌, List, [], ◌∷◌, ◌++◌}
+use Rattle.std.specs.Prelude.{Option, None}
 use Rattle.std.specs.Prelude.{codes}
 use Rattle.std.specs.Prelude.{decimal, is_some}
 use Rattle.settings_core.specs.Settings.{lifecycle_named}
@@ -13,10 +14,13 @@ use Rattle.desk_pages.specs.Change.{ChangeTold, change, change_told, is_open}
 use Rattle.desk_pages.specs.Facts.{FactsTold, facts, facts_told}
 use Rattle.desk_pages.specs.Frame.{bottom, top}
 use Rattle.desk_pages.specs.History.{history, kinds_told}
-use Rattle.desk_pages.specs.Moves.{closing}
+use Rattle.desk_pages.specs.Moves.{closing_after}
+use Rattle.desk_pages.specs.Pieces.{parts_if}
+use Rattle.desk_pages.specs.Rights.{may_comment, may_modify, may_reply}
 use Rattle.desk_pages.specs.Write.{comment, reply}
 use Rattle.desk_pages.specs.declared.frame.Place.TheVariants as place
-use Rattle.desk_pages.specs.declared.markup.request.TheConstants.{COMMENT_TOP, REPLY_TOP}
+use Rattle.desk_pages.specs.declared.markup.request.TheConstants.{COMMENT_END, COMMENT_TOP}
+use Rattle.desk_pages.specs.declared.markup.request.TheConstants.{REPLY_TOP}
 use Rattle.desk_pages.specs.declared.markup.request.TheConstants.{REQUEST_TOP, WRITING_END}
 
 -- the number and the subject
@@ -32,27 +36,36 @@ request_top row =
 abbrev pub closing_for : List ℕ → Settings → Dossier → Option (List ℕ)
 closing_for caller settings dossier =
     if is_open caller dossier.shown
-    then closing (lifecycle_named settings dossier.queue.lifecycle) dossier.shown.row.status
+    then closing_after (lifecycle_named settings dossier.queue.lifecycle) dossier.shown.row.status
     else None
 
--- what may be written to the request of this number
-unfoldable pub writing : ℕ → Option (List ℕ) → List Part
-writing id status =
+-- the form for a comment, which is folded beside a reply
+unfoldable pub commenting : ℕ → Bool → List Part
+commenting id replies =
+    filled COMMENT_TOP.now [] (not replies ∷ replies ∷ [])
+    ++ (comment id [] ++ filled COMMENT_END.now [] [])
+
+-- what may be written to the request of this number: a reply, a comment, or nothing
+unfoldable pub writing : ℕ → Option (List ℕ) → Bool → Bool → List Part
+writing id status replies comments =
     filled REPLY_TOP.now [] []
-    ++ (reply id [] status false
-    ++ (filled COMMENT_TOP.now [] [] ++ (comment id [] ++ filled WRITING_END.now [] [])))
+    ++ (parts_if replies (reply id [] status false)
+    ++ (parts_if comments (commenting id replies)
+    ++ filled WRITING_END.now [] ((not replies && not comments) ∷ [])))
 
 -- what is told of the request of this number, to a caller at a moment
 abbrev pub request_shown : ℕ → List ℕ → ℕ → Settings → Dossier → List Part
 request_shown id caller moment settings dossier =
     request_top dossier.shown.row
-    ++ (facts (is_open caller dossier.shown) id moment settings dossier
+    ++ (facts (may_modify settings dossier.shown caller) id moment settings dossier
     ++ history dossier.entries)
 
 -- what may be done with it
 abbrev pub request_acts : ℕ → List ℕ → Settings → Dossier → List Part
 request_acts id caller settings dossier =
-    writing id (closing_for caller settings dossier) ++ change caller settings dossier
+    writing id (closing_for caller settings dossier) (may_reply settings dossier.shown caller)
+    (may_comment settings dossier.shown caller)
+    ++ change caller settings dossier
 
 -- the content of the page
 abbrev pub request_content : List ℕ → ℕ → Settings → Dossier → List Part
@@ -66,10 +79,14 @@ request_page caller moment settings dossier =
     top (request_title dossier.shown.row.id dossier.shown.row.subject) place.Elsewhere caller
     ++ (request_content caller moment settings dossier ++ bottom moment)
 
--- what the markup of the page tells: whether the caller is a requestor, what is told of its facts, the
--- kinds of its entries, whether it can be closed with a reply, and what is told of what may change it
+-- what the markup of the page tells: whether the caller is a requestor; whether the caller may change it,
+-- reply and comment; what is told of its facts, the kinds of its entries, whether it can be closed with
+-- a reply, and what is told of what may change it
 pub record RequestTold : Type 0 where
   pub opened : Bool
+  pub modifies : Bool
+  pub replies : Bool
+  pub comments : Bool
   pub facts : FactsTold
   pub kinds : List EntryKind
   pub closing : Bool
@@ -79,6 +96,9 @@ abbrev pub request_told : List ℕ → ℕ → Settings → Dossier → RequestT
 request_told caller moment settings dossier =
     record {
       opened = is_open caller dossier.shown;
+      modifies = may_modify settings dossier.shown caller;
+      replies = may_reply settings dossier.shown caller;
+      comments = may_comment settings dossier.shown caller;
       facts = facts_told moment settings dossier;
       kinds = kinds_told dossier.entries;
       closing = is_some (closing_for caller settings dossier);

@@ -1,5 +1,5 @@
 -- A table of requests that were found.
-use Rattle.std.specs.Prelude.{ℕ, nat_lt, Bool, false, List, [], ◌∷◌, ◌++◌, length, map}
+use Rattle.std.specs.Prelude.{ℕ, ◌-◌, nat_lt, Bool, false, List, [], ◌∷◌, ◌++◌, length, map}
 use Rattle.std.specs.Prelude.{Option, Some, None, is_none, is_some, codes, decimal}
 use Rattle.std.specs.List.{flat_map}
 use Rattle.std.specs.Str.{bytes_eq}
@@ -9,7 +9,7 @@ use Rattle.desk_texts.specs.Words.{or_nobody}
 use Rattle.find_core.specs.declared.search.Found.{Found}
 use Rattle.page_core.specs.Page.{Part}
 use Rattle.page_core.specs.Template.{filled}
-use Rattle.page_core.specs.Values.{clock, day}
+use Rattle.page_core.specs.Values.{clock, day, span}
 use Rattle.desk_pages.specs.Pieces.{table_end, time_or_dash}
 use Rattle.desk_pages.specs.declared.markup.rows.TheConstants.{ASKING, ROW_CELLS, ROW_END}
 use Rattle.desk_pages.specs.declared.markup.rows.TheConstants.{ROW_TOP, TABLE_TOP}
@@ -23,6 +23,11 @@ is_of caller (Some owner) = bytes_eq owner caller
 abbrev pub is_late : ℕ → Option ℕ → Bool
 is_late moment None = false
 is_late moment (Some due) = nat_lt due moment
+
+-- for how many minutes it has been late
+abbrev pub late_by : ℕ → Option ℕ → ℕ
+late_by moment None = 0
+late_by moment (Some due) = moment - due
 
 -- the word for the class of a status; none where the lifecycle hasn't the status
 abbrev pub word_of_class : Option Class → List ℕ
@@ -48,10 +53,10 @@ cells found =
     filled ROW_CELLS.now
     (found.queue ∷ word_of_class found.class ∷ found.status ∷ or_nobody found.owner ∷ []) []
 
--- what follows its due moment: whether it is late, and when its last entry was made
-unfoldable pub row_end : Bool → ℕ → List Part
-row_end late last =
-    filled ROW_END.now (day last ∷ clock last ∷ day last ∷ clock last ∷ []) (late ∷ [])
+-- what follows its due moment: whether it is late, and for how long, and when its last entry was made
+unfoldable pub row_end : Bool → ℕ → ℕ → List Part
+row_end late by last =
+    filled ROW_END.now (span by ∷ day last ∷ clock last ∷ day last ∷ clock last ∷ []) (late ∷ [])
 
 -- a row, for a caller at a moment
 unfoldable pub row : List ℕ → ℕ → Found → List Part
@@ -59,7 +64,7 @@ row caller moment found =
     row_top caller (is_late moment found.due) found
     ++ (flat_map asking found.requestors
     ++ (cells found
-    ++ (time_or_dash found.due ++ row_end (is_late moment found.due) found.last)))
+    ++ (time_or_dash found.due ++ row_end (is_late moment found.due) (late_by moment found.due) found.last)))
 
 -- the table of these, which is called so
 unfoldable pub table : List ℕ → List ℕ → ℕ → List Found → List Part

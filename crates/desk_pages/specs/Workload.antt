@@ -10,7 +10,8 @@ use Rattle.page_core.specs.Template.{filled}
 use Rattle.desk_pages.specs.Frame.{bottom, top}
 use Rattle.desk_pages.specs.Rows.{is_of}
 use Rattle.desk_pages.specs.declared.frame.Place.TheVariants as place
-use Rattle.desk_pages.specs.declared.markup.workload.TheConstants.{LOAD_ROW, LOAD_TOP, LOAD_TOTAL}
+use Rattle.desk_pages.specs.declared.markup.workload.TheConstants.{LOAD_BARS, LOAD_ROW}
+use Rattle.desk_pages.specs.declared.markup.workload.TheConstants.{LOAD_TOP, LOAD_TOTAL}
 
 -- whether there are any
 abbrev pub is_any : ℕ → Bool
@@ -21,16 +22,29 @@ abbrev pub most : List Load → ℕ
 most [] = 0
 most (load ∷ loads) = max load.live (most loads)
 
--- a row, for a caller, its bars drawn to this scale
-unfoldable pub load_row : List ℕ → ℕ → Load → List Part
-load_row caller whole load =
-    filled LOAD_ROW.now
-    (or_nobody load.owner ∷ decimal load.live ∷ decimal load.overdue
-    ∷ decimal whole ∷ decimal load.live ∷ decimal load.live
-    ∷ decimal whole ∷ decimal load.overdue ∷ decimal load.overdue ∷ [])
-    (is_of caller load.owner ∷ is_none load.owner ∷ is_any load.overdue ∷ [])
+-- how much is open and late, as bars that are drawn to this scale
+unfoldable pub bars : ℕ → Load → List Part
+bars whole load =
+    filled LOAD_BARS.now
+    (decimal whole ∷ decimal load.live ∷ decimal load.live
+    ∷ decimal whole ∷ decimal load.overdue ∷ decimal load.overdue ∷ []) []
 
--- the last row: the sums of both columns
+-- a row of an owner, with links to what is counted
+unfoldable pub load_row_of : List ℕ → Bool → ℕ → Load → List Part
+load_row_of owner mine whole load =
+    filled LOAD_ROW.now
+    (owner ∷ owner
+    ∷ owner ∷ decimal load.live
+    ∷ owner ∷ decimal load.overdue ∷ [])
+    (mine ∷ is_none load.owner ∷ is_any load.overdue ∷ [])
+    ++ bars whole load
+
+-- a row, for a caller
+abbrev pub load_row : List ℕ → ℕ → Load → List Part
+load_row caller whole load =
+    load_row_of (or_nobody load.owner) (is_of caller load.owner) whole load
+
+-- the last row: the sums of both columns, with links to what is counted
 unfoldable pub total : List Load → List Part
 total loads =
     filled LOAD_TOTAL.now (decimal (all_live loads) ∷ decimal (all_overdue loads) ∷ [])

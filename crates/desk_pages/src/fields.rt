@@ -3,9 +3,10 @@ ghost use Rattle.std.specs.Prelude.{◌≡◌, ◌++◌, OnOk};
 ghost use Rattle.std.specs.List.{flat_map};
 ghost use Rattle.page_core.specs.Page.{page_bytes};
 ghost use Rattle.desk_pages.specs.Fields as form;
+ghost use Rattle.desk_pages.specs.Pieces.{parts_if};
 
 use crate::frame::DIGITS;
-use crate::markup::fields::{FIELDS_END, LEVEL_TOP};
+use crate::markup::fields::{LEVEL_END, LEVEL_TOP, LINKING, WATCHING};
 use crate::pieces::put_choice;
 use hours_core::Level;
 use page_core::{Value, fill};
@@ -13,28 +14,67 @@ use settings_core::Named;
 use std::alloc::AllocError;
 use text_core::Text;
 
-/// Puts the forms for the level, in which the present one is chosen at first, for watchers and for
-/// links.
-#[tactic(auto, unfolding(crate::specs::Fields::field_forms))]
+/// Puts the forms for the level, in which the present one is chosen at first, and for links, where the
+/// request may be changed, and the one for watchers, where persons may be set.
 pub(crate) fn put_field_forms(
     out: &mut Vec<u8>,
     id: u32,
     present: &Option<Text>,
     levels: &[Named<Level>],
+    modifies: bool,
+    sets: bool,
 ) -> Result<(), AllocError>
-    ensures { OnOk result (out.new.items
-        ≡ out.old.items ++ page_bytes (form.field_forms id present.now levels.now)) }
+    ensures { OnOk result (out.new.items ≡ out.old.items
+        ++ page_bytes (form.field_forms id present.now levels.now modifies sets)) }
 {
-    let values = [
-        Value::Number(id),
-        Value::Number(id),
-        Value::Number(id),
-        Value::Text(DIGITS),
-        Value::Number(id),
-    ];
+    put_level_form(out, id, present, levels, modifies)?;
+    put_watching(out, id, sets)?;
+    put_linking(out, id, modifies)
+}
+
+#[tactic(auto, unfolding(crate::specs::Fields::level_form))]
+fn put_level_form(
+    out: &mut Vec<u8>,
+    id: u32,
+    present: &Option<Text>,
+    levels: &[Named<Level>],
+    modifies: bool,
+) -> Result<(), AllocError>
+    ensures { OnOk result (out.new.items ≡ out.old.items
+        ++ page_bytes (parts_if modifies (form.level_form id present.now levels.now))) }
+{
+    if !modifies {
+        return Ok(());
+    }
     fill(out, LEVEL_TOP, &[Value::Number(id)], &[])?;
     put_level_rows(out, present, levels)?;
-    fill(out, FIELDS_END, &values, &[])
+    fill(out, LEVEL_END, &[], &[])
+}
+
+#[tactic(auto, unfolding(crate::specs::Fields::watching))]
+fn put_watching(out: &mut Vec<u8>, id: u32, sets: bool) -> Result<(), AllocError>
+    ensures { OnOk result (out.new.items
+        ≡ out.old.items ++ page_bytes (parts_if sets (form.watching id))) }
+{
+    if sets {
+        let values = [Value::Number(id), Value::Number(id)];
+        fill(out, WATCHING, &values, &[])
+    } else {
+        Ok(())
+    }
+}
+
+#[tactic(auto, unfolding(crate::specs::Fields::linking))]
+fn put_linking(out: &mut Vec<u8>, id: u32, modifies: bool) -> Result<(), AllocError>
+    ensures { OnOk result (out.new.items
+        ≡ out.old.items ++ page_bytes (parts_if modifies (form.linking id))) }
+{
+    if modifies {
+        let values = [Value::Number(id), Value::Text(DIGITS), Value::Number(id)];
+        fill(out, LINKING, &values, &[])
+    } else {
+        Ok(())
+    }
 }
 
 fn put_level_rows(

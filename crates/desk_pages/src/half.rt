@@ -28,11 +28,11 @@ pub fn filed_page(
 {
     let mut out = Vec::new(alloc);
     put_top(&mut out, heading_of(refusal), Place::Elsewhere, caller)?;
-    put_crumb(&mut out, true, id)?;
+    put_crumb(&mut out, id)?;
     put_refusal_after(&mut out, refusal)?;
     fill(&mut out, FILED_NOTE, &[Value::Number(id)], &[])?;
     put_reply_form(&mut out, id, text, None, false)?;
-    put_to_request(&mut out, true, id)?;
+    put_to_request(&mut out, id)?;
     put_bottom(&mut out, moment)?;
     Ok(out)
 }
@@ -52,10 +52,10 @@ pub fn replied_page(
 {
     let mut out = Vec::new(alloc);
     put_top(&mut out, heading_of(refusal), Place::Elsewhere, caller)?;
-    put_crumb(&mut out, true, id)?;
+    put_crumb(&mut out, id)?;
     put_refusal_after(&mut out, refusal)?;
     fill(&mut out, REPLIED_NOTE, &[Value::Text(status)], &[])?;
-    put_to_request(&mut out, true, id)?;
+    put_to_request(&mut out, id)?;
     put_bottom(&mut out, moment)?;
     Ok(out)
 }

@@ -123,7 +123,9 @@ fn put_queue_row(out: &mut Vec<u8>, load: &QueueLoad) -> Result<(), AllocError>
     let values = [
         Value::Text(load.queue.name.as_str()),
         Value::Text(load.queue.name.as_str()),
+        Value::Text(load.queue.name.as_str()),
         Value::Number(load.open),
+        Value::Text(load.queue.name.as_str()),
         Value::Number(load.late),
         Value::Text(name_or(&load.queue.level, "–")),
         Value::Text(load.queue.name.as_str()),

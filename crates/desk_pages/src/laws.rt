@@ -1,10 +1,9 @@
 //! What holds of every page of the desk: each text stands in text or in a value, and no address is
 //! one. So whatever people write, it is never read as markup, and the markup tells no more than what
 //! is named here: two pages of which that is the same have the same markup.
-ghost use Rattle.std.specs.Prelude.{◌≡◌, ℕ, Bool, List, Option, is_some, length};
+ghost use Rattle.std.specs.Prelude.{◌≡◌, ℕ, Bool, List, Option, is_some};
 ghost use Rattle.settings_core.specs.declared.settings.Settings.{Settings};
 ghost use Rattle.desk_model.specs.declared.answer.Dossier.{Dossier};
-ghost use Rattle.desk_model.specs.declared.answer.LateLine.{LateLine};
 ghost use Rattle.desk_model.specs.declared.answer.Load.{Load};
 ghost use Rattle.desk_model.specs.declared.refusal.Refusal.{Refusal};
 ghost use Rattle.find_core.specs.declared.loads.QueueLoad.{QueueLoad};
@@ -18,7 +17,6 @@ ghost use Rattle.desk_pages.specs.Fault.{fault_page};
 ghost use Rattle.desk_pages.specs.Find.{find_fault_page, find_page, found_told};
 ghost use Rattle.desk_pages.specs.Home.{home_page, home_told};
 ghost use Rattle.desk_pages.specs.New.{new_page};
-ghost use Rattle.desk_pages.specs.Overdue.{overdue_page};
 ghost use Rattle.desk_pages.specs.RefusalPage.{
   ask_refusal_page,
   comment_refusal_page,
@@ -35,9 +33,11 @@ ghost use Rattle.desk_pages.specs.Search.{chosen_in};
 ghost use Rattle.desk_pages.specs.SignIn.{sign_in_page};
 ghost use Rattle.desk_pages.specs.Workload.{late_told, workload_page};
 
-/// The page of a search tells by its markup what was ticked and chosen in its form, whether it is
-/// that of a queue, how many requests and requestors there are, which of them are due and which late,
-/// and whether there are pages before it and after it.
+/// The page of a search tells by its markup which parts are sought, where that is told; what was
+/// ticked and chosen in its form, and which of the choices that narrow it are the present ones;
+/// whether it is that of a queue, or of what is late; how many requests and requestors there are,
+/// which of them are due and which late; whether it has all that was found, one, or none; and whether
+/// there are pages before it and after it.
 pub fn find_page_law()
     ensures found { (caller other : List ℕ) (moment later : ℕ) (query asked : List ℕ)
         (start begin : Start) (form typed : FindForm) (page another : FoundPage)
@@ -48,13 +48,6 @@ pub fn find_page_law()
         (form typed : FindForm) → chosen_in form ≡ chosen_in typed
         → SameMarkup (find_fault_page caller moment sentence form)
         (find_fault_page other later words typed) }
-{}
-
-/// The page of what is late tells by its markup how many requests there are.
-pub fn overdue_page_law()
-    ensures { (caller other : List ℕ) (moment later : ℕ) (lines others : List LateLine)
-        → length lines ≡ length others
-        → SameMarkup (overdue_page caller moment lines) (overdue_page other later others) }
 {}
 
 /// The page of who has how much to do tells by its markup how many owners there are, and of which
@@ -100,35 +93,33 @@ pub fn new_page_law()
         (new_page another other later first names) }
 {}
 
-/// The page of a refusal tells by its markup whether a right is lacking, and whether what was asked
-/// for is there; and no more of what was typed than the form that it was typed into, and whether a
-/// status was chosen with a reply. So do the pages that say that of two commands one was done.
+/// The page of a refusal tells by its markup whether a right is lacking, and of a new request whether
+/// its queue is there; and no more of what was typed than the form that it was typed into, and
+/// whether a status was chosen. So do the pages that say that of two commands one was done.
 pub fn refusal_page_law()
     ensures plain { (why other : Refusal) (caller another : List ℕ) (moment later : ℕ)
         → is_denied why ≡ is_denied other
         → SameMarkup (refusal_page why caller moment) (refusal_page other another later) }
     ensures request { (why other : Refusal) (caller another : List ℕ) (moment later id n : ℕ)
-        → is_denied why ≡ is_denied other → is_found why ≡ is_found other
+        → is_denied why ≡ is_denied other
         → SameMarkup (request_refusal_page why caller moment id)
         (request_refusal_page other another later n) }
     ensures reply { (why other : Refusal) (caller another : List ℕ) (moment later id n : ℕ)
         (text words : List ℕ) (status chosen : Option (List ℕ))
-        → is_denied why ≡ is_denied other → is_found why ≡ is_found other
-        → is_some status ≡ is_some chosen
+        → is_denied why ≡ is_denied other → is_some status ≡ is_some chosen
         → SameMarkup (reply_refusal_page why caller moment id text status)
         (reply_refusal_page other another later n words chosen) }
     ensures comment { (why other : Refusal) (caller another : List ℕ) (moment later id n : ℕ)
-        (text words : List ℕ)
-        → is_denied why ≡ is_denied other → is_found why ≡ is_found other
+        (text words : List ℕ) → is_denied why ≡ is_denied other
         → SameMarkup (comment_refusal_page why caller moment id text)
         (comment_refusal_page other another later n words) }
     ensures ask { (why other : Refusal) (caller another : List ℕ) (moment later : ℕ)
-        (queue place subject line text words requestors persons usual first : List ℕ)
-        (statuses names : List (List ℕ))
+        (queue place subject line text words requestors persons : List ℕ)
+        (status chosen : Option (List ℕ))
         → is_denied why ≡ is_denied other → is_found why ≡ is_found other
-        → usual_told usual statuses ≡ usual_told first names
-        → SameMarkup (ask_refusal_page why caller moment queue subject text requestors usual statuses)
-        (ask_refusal_page other another later place line words persons first names) }
+        → is_some status ≡ is_some chosen
+        → SameMarkup (ask_refusal_page why caller moment queue subject text requestors status)
+        (ask_refusal_page other another later place line words persons chosen) }
     ensures filed { (why other : Refusal) (caller another : List ℕ) (moment later id n : ℕ)
         (text words : List ℕ) → is_denied why ≡ is_denied other
         → SameMarkup (filed_page why caller moment id text)
@@ -140,7 +131,8 @@ pub fn refusal_page_law()
 {}
 
 /// The page of a request tells by its markup whether the request is due, whether it is late, whether
-/// local time stands beside its moments, whether the caller is a requestor of it, how many persons
+/// local time stands beside its moments, whether the caller is a requestor of it and may change it,
+/// reply and comment, how many persons
 /// and other requests each of its lists has, and the kinds of its entries in their order. Of what may
 /// change it the markup tells which moves there are and how many levels and suggested names, and
 /// which level is the present one, but not who owns the request; and whether it can be closed with a

@@ -7,6 +7,7 @@
 
 mod ask;
 mod change;
+mod chips;
 mod facts;
 mod fault;
 mod fields;
@@ -21,17 +22,20 @@ mod local;
 mod markup;
 mod moves;
 mod new;
-mod overdue;
 mod owner;
 mod owners;
+mod paging;
 mod people;
 mod pieces;
+mod pills;
 mod refusal;
 mod refused;
 mod request;
+mod rights;
 mod rows;
 mod search;
 mod sign_in;
+mod sought;
 mod workload;
 mod write;
 
@@ -42,11 +46,10 @@ pub use frame::Place;
 pub use half::{filed_page, replied_page};
 pub use home::home_page;
 pub use laws::{
-    fault_page_law, find_page_law, home_page_law, new_page_law, overdue_page_law, refusal_page_law,
-    request_page_law, sign_in_page_law, workload_page_law,
+    fault_page_law, find_page_law, home_page_law, new_page_law, refusal_page_law, request_page_law,
+    sign_in_page_law, workload_page_law,
 };
 pub use new::new_page;
-pub use overdue::overdue_page;
 pub use refusal::{
     ask_refusal_page, comment_refusal_page, refusal_page, reply_refusal_page, request_refusal_page,
 };

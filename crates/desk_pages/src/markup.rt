@@ -4,6 +4,7 @@
 
 pub(crate) mod ask;
 pub(crate) mod change;
+pub(crate) mod chips;
 pub(crate) mod facts;
 pub(crate) mod fault;
 pub(crate) mod fields;
@@ -14,10 +15,11 @@ pub(crate) mod home;
 pub(crate) mod lists;
 pub(crate) mod moves;
 pub(crate) mod new;
-pub(crate) mod overdue;
 pub(crate) mod owner;
+pub(crate) mod paging;
 pub(crate) mod people;
 pub(crate) mod pieces;
+pub(crate) mod pills;
 pub(crate) mod refused;
 pub(crate) mod request;
 pub(crate) mod rows;

@@ -5,9 +5,9 @@ ghost use Rattle.desk_pages.specs.Owners as form;
 
 use crate::markup::people::{OWNERS_END, OWNERS_TOP};
 use crate::people::put_persons;
+use crate::rights::may_own;
 use desk_model::Shown;
 use page_core::fill;
-use rights_core::{Roles, right};
 use settings_core::Settings;
 use std::alloc::{AllocError, Global};
 use text_core::Text;
@@ -47,30 +47,4 @@ fn suggested(alloc: Global, settings: &Settings, shown: &Shown) -> Result<Vec<Te
     }
     names.truncate(MOST);
     Ok(names)
-}
-
-/// Whether the person may own the request, with the roles that the person has on it.
-#[tactic(auto, unfolding(rights_core::specs::Right::own_ticket))]
-fn may_own(settings: &Settings, shown: &Shown, name: &str) -> bool
-    ensures { result ≡ form.may_own settings.now shown.now name.now }
-{
-    let queue = shown.row.queue.as_str();
-    let roles = roles_in(shown, name);
-    settings
-        .people()
-        .holds(name, right::OWN_TICKET, queue, roles)
-}
-
-fn roles_in(shown: &Shown, name: &str) -> Roles
-    ensures { result ≡ form.roles_in shown.now name.now }
-{
-    Roles {
-        owner: match &shown.row.owner {
-            Some(owner) => owner.as_str() == name,
-            None => false,
-        },
-        requestor: shown.requestors.contains(name),
-        cc: shown.cc.contains(name),
-        admin_cc: shown.admin_cc.contains(name),
-    }
 }

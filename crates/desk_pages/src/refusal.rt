@@ -5,7 +5,7 @@ ghost use Rattle.std.specs.Option.{option_map};
 ghost use Rattle.desk_pages.specs.RefusalPage as form;
 ghost use Rattle.desk_pages.specs.Write.{comment, reply};
 
-use crate::ask::{Typed, put_ask};
+use crate::ask::{Typed, put_ask_again};
 use crate::frame::{Place, put_bottom, put_top};
 use crate::markup::refused::{TO_QUEUES, TYPED_END, TYPED_TOP};
 use crate::refused::{heading_of, put_crumb, put_refusal, put_to_queue, put_to_request};
@@ -14,7 +14,6 @@ use desk_model::Refusal;
 use hours_core::Minute;
 use page_core::fill;
 use std::alloc::{AllocError, Global};
-use text_core::Text;
 
 /// The page of a refusal of a reading, or of a command on no request, for a caller at a moment.
 pub fn refusal_page(
@@ -35,7 +34,7 @@ pub fn refusal_page(
 }
 
 /// The page of a refusal of a command on a request, for a caller at a moment. It leads back to the
-/// request, but where that isn't there.
+/// request, also where that isn't there: its number was the caller's own.
 pub fn request_refusal_page(
     alloc: Global,
     refusal: &Refusal,
@@ -48,9 +47,9 @@ pub fn request_refusal_page(
 {
     let mut out = Vec::new(alloc);
     put_top(&mut out, heading_of(refusal), Place::Elsewhere, caller)?;
-    put_crumb(&mut out, is_found(refusal), id)?;
+    put_crumb(&mut out, id)?;
     put_refusal(&mut out, refusal)?;
-    put_to_request(&mut out, is_found(refusal), id)?;
+    put_to_request(&mut out, id)?;
     put_bottom(&mut out, moment)?;
     Ok(out)
 }
@@ -72,10 +71,10 @@ pub fn reply_refusal_page(
 {
     let mut out = Vec::new(alloc);
     put_top(&mut out, heading_of(refusal), Place::Elsewhere, caller)?;
-    put_crumb(&mut out, is_found(refusal), id)?;
+    put_crumb(&mut out, id)?;
     put_refusal(&mut out, refusal)?;
     put_reply_form(&mut out, id, text, status, true)?;
-    put_to_request(&mut out, is_found(refusal), id)?;
+    put_to_request(&mut out, id)?;
     put_bottom(&mut out, moment)?;
     Ok(out)
 }
@@ -94,10 +93,10 @@ pub fn comment_refusal_page(
 {
     let mut out = Vec::new(alloc);
     put_top(&mut out, heading_of(refusal), Place::Elsewhere, caller)?;
-    put_crumb(&mut out, is_found(refusal), id)?;
+    put_crumb(&mut out, id)?;
     put_refusal(&mut out, refusal)?;
     put_comment_form(&mut out, id, text)?;
-    put_to_request(&mut out, is_found(refusal), id)?;
+    put_to_request(&mut out, id)?;
     put_bottom(&mut out, moment)?;
     Ok(out)
 }
@@ -127,7 +126,8 @@ fn put_comment_form(out: &mut Vec<u8>, id: u32, text: &str) -> Result<(), AllocE
     fill(out, TYPED_END, &[], &[])
 }
 
-/// The page of a new request that was refused, for a caller at a moment, with what was typed.
+/// The page of a new request that was refused, for a caller at a moment, with what was typed and the
+/// status that was chosen.
 pub fn ask_refusal_page(
     alloc: Global,
     refusal: &Refusal,
@@ -135,17 +135,16 @@ pub fn ask_refusal_page(
     moment: Minute,
     queue: &str,
     typed: Typed<'_>,
-    usual: &str,
-    statuses: &[Text],
+    status: Option<&str>,
 ) -> Result<Vec<u8>, AllocError>
     ensures { IfOk result (λ page. page.items ≡ page_bytes
         (form.ask_refusal_page refusal.now caller.now moment queue.now typed.entry.subject.now
-        typed.entry.text.now typed.entry.requestors.now usual.now statuses.now)) }
+        typed.entry.text.now typed.entry.requestors.now (option_map (λ s. s.now) status.entry))) }
 {
     let mut out = Vec::new(alloc);
     put_top(&mut out, heading_of(refusal), Place::Elsewhere, caller)?;
     put_refusal(&mut out, refusal)?;
-    put_ask(&mut out, queue, caller, typed, usual, statuses)?;
+    put_ask_again(&mut out, queue, caller, typed, status)?;
     put_to_queue(&mut out, is_found(refusal), queue)?;
     put_bottom(&mut out, moment)?;
     Ok(out)

@@ -140,30 +140,24 @@ fn is_denied(refusal: &Refusal) -> bool
     matches!(refusal, Refusal::Denied(_))
 }
 
-/// Puts the way to the request, if that is there.
+/// Puts the way to the request.
 #[tactic(auto, unfolding(crate::specs::Refused::crumb))]
-pub(crate) fn put_crumb(out: &mut Vec<u8>, found: bool, id: u32) -> Result<(), AllocError>
-    ensures { OnOk result (out.new.items ≡ out.old.items ++ page_bytes (form.crumb found id)) }
+pub(crate) fn put_crumb(out: &mut Vec<u8>, id: u32) -> Result<(), AllocError>
+    ensures { OnOk result (out.new.items ≡ out.old.items ++ page_bytes (form.crumb id)) }
 {
-    fill(
-        out,
-        CRUMB,
-        &[Value::Number(id), Value::Number(id)],
-        &[found],
-    )
+    fill(out, CRUMB, &[Value::Number(id), Value::Number(id)], &[])
 }
 
-/// Puts the way back to the request, or to the queues if it isn't there.
+/// Puts the way back to the request.
 #[tactic(auto, unfolding(crate::specs::Refused::to_request))]
-pub(crate) fn put_to_request(out: &mut Vec<u8>, found: bool, id: u32) -> Result<(), AllocError>
-    ensures { OnOk result (out.new.items
-        ≡ out.old.items ++ page_bytes (form.to_request found id)) }
+pub(crate) fn put_to_request(out: &mut Vec<u8>, id: u32) -> Result<(), AllocError>
+    ensures { OnOk result (out.new.items ≡ out.old.items ++ page_bytes (form.to_request id)) }
 {
     fill(
         out,
         TO_REQUEST,
         &[Value::Number(id), Value::Number(id)],
-        &[found, !found],
+        &[],
     )
 }
 

@@ -1,15 +1,18 @@
 //! The page of a request.
-ghost use Rattle.std.specs.Prelude.{◌≡◌, ◌++◌, IfOk, OnOk, string_bytes};
+ghost use Rattle.std.specs.Prelude.{◌≡◌, ◌++◌, [], false, IfOk, OnOk, string_bytes};
 ghost use Rattle.std.specs.Option.{option_map};
 ghost use Rattle.page_core.specs.Page.{page_bytes};
+ghost use Rattle.desk_pages.specs.Pieces.{parts_if};
 ghost use Rattle.desk_pages.specs.Request as form;
+ghost use Rattle.desk_pages.specs.Write.{reply};
 
 use crate::change::{is_open, put_change};
 use crate::facts::put_facts;
 use crate::frame::{Place, put_bottom, put_top};
 use crate::history::put_history;
-use crate::markup::request::{COMMENT_TOP, REPLY_TOP, REQUEST_TOP, WRITING_END};
-use crate::moves::closing;
+use crate::markup::request::{COMMENT_END, COMMENT_TOP, REPLY_TOP, REQUEST_TOP, WRITING_END};
+use crate::moves::closing_after;
+use crate::rights::{may_comment, may_modify, may_reply};
 use crate::write::{put_comment, put_reply};
 use desk_model::{Dossier, RequestRow};
 use hours_core::Minute;
@@ -18,8 +21,8 @@ use settings_core::Settings;
 use std::alloc::{AllocError, Global};
 
 /// The page of a request, for a caller at a moment: what is known of it, what happened, the forms
-/// for a reply and a comment, and those that change it. Whoever is no requestor of it can take each
-/// person out, and each link away, by one press. The class of its status is that of the lifecycle of
+/// for a reply and a comment, and those that change it, as far as the caller may. Whoever may change it
+/// can take each person out, and each link away, by one press. The class of its status is that of the lifecycle of
 /// its queue; where the settings have no such lifecycle, it has none. Local time by the calendar of
 /// its level stands beside when it is due and when it was filed.
 pub fn request_page(
@@ -79,7 +82,7 @@ fn put_told(
         (form.request_shown id caller.now moment settings.now dossier.now)) }
 {
     let shown = &dossier.shown;
-    let buttons = is_open(caller, shown);
+    let buttons = may_modify(settings, shown, caller);
     put_heading(out, &shown.row)?;
     put_facts(out, buttons, id, moment, settings, dossier)?;
     put_history(out, dossier.entries.as_slice())
@@ -97,7 +100,10 @@ fn put_acts(
     ensures { OnOk result (out.new.items ≡ out.old.items ++ page_bytes
         (form.request_acts id caller.now settings.now dossier.now)) }
 {
-    put_writing(out, id, closing_for(caller, settings, dossier))?;
+    let replies = may_reply(settings, &dossier.shown, caller);
+    let comments = may_comment(settings, &dossier.shown, caller);
+    let status = closing_for(caller, settings, dossier);
+    put_writing(out, id, status, replies, comments)?;
     put_change(alloc, out, caller, settings, dossier)
 }
 
@@ -115,28 +121,69 @@ fn put_heading(out: &mut Vec<u8>, row: &RequestRow) -> Result<(), AllocError>
     fill(out, REQUEST_TOP, &values, &[])
 }
 
-/// The status to which the request can be moved with a reply: the first inactive one, but by no
-/// requestor.
+/// The status to which the request can be moved with a reply: the first inactive one, where the
+/// lifecycle lets it move there once the reply has moved it, but by no requestor.
 fn closing_for<'s>(caller: &str, settings: &'s Settings, dossier: &Dossier) -> Option<&'s str>
     ensures { option_map (λ s. s.now) result
         ≡ form.closing_for caller.now settings.entry.now dossier.now }
 {
     if is_open(caller, &dossier.shown) {
         let lifecycle = settings.lifecycle(dossier.queue.lifecycle.as_str());
-        closing(lifecycle, dossier.shown.row.status.as_str())
+        closing_after(lifecycle, dossier.shown.row.status.as_str())
     } else {
         None
     }
 }
 
 #[tactic(auto, unfolding(crate::specs::Request::writing))]
-fn put_writing(out: &mut Vec<u8>, id: u32, status: Option<&str>) -> Result<(), AllocError>
+fn put_writing(
+    out: &mut Vec<u8>,
+    id: u32,
+    status: Option<&str>,
+    replies: bool,
+    comments: bool,
+) -> Result<(), AllocError>
     ensures { OnOk result (out.new.items ≡ out.old.items ++ page_bytes
-        (form.writing id (option_map (λ s. s.now) status.entry))) }
+        (form.writing id (option_map (λ s. s.now) status.entry) replies comments)) }
 {
     fill(out, REPLY_TOP, &[], &[])?;
-    put_reply(out, id, "", status, false)?;
-    fill(out, COMMENT_TOP, &[], &[])?;
+    put_replying(out, id, status, replies)?;
+    put_commenting(out, id, replies, comments)?;
+    fill(out, WRITING_END, &[], &[!replies && !comments])
+}
+
+/// Puts the form for a reply, where one may be sent.
+fn put_replying(
+    out: &mut Vec<u8>,
+    id: u32,
+    status: Option<&str>,
+    replies: bool,
+) -> Result<(), AllocError>
+    ensures { OnOk result (out.new.items ≡ out.old.items ++ page_bytes
+        (parts_if replies (reply id [] (option_map (λ s. s.now) status.entry) false))) }
+{
+    if replies {
+        put_reply(out, id, "", status, false)
+    } else {
+        Ok(())
+    }
+}
+
+/// Puts the form for a comment, where one may be sent: folded beside a reply.
+#[tactic(auto, unfolding(crate::specs::Request::commenting))]
+fn put_commenting(
+    out: &mut Vec<u8>,
+    id: u32,
+    replies: bool,
+    comments: bool,
+) -> Result<(), AllocError>
+    ensures { OnOk result (out.new.items ≡ out.old.items ++ page_bytes
+        (parts_if comments (form.commenting id replies))) }
+{
+    if !comments {
+        return Ok(());
+    }
+    fill(out, COMMENT_TOP, &[], &[!replies, replies])?;
     put_comment(out, id, "")?;
-    fill(out, WRITING_END, &[], &[])
+    fill(out, COMMENT_END, &[], &[])
 }

@@ -55,7 +55,7 @@ fn put_row(out: &mut Vec<u8>, caller: &str, moment: Minute, found: &Found) -> Re
     put_asking(out, found.requestors.as_slice())?;
     put_cells(out, found)?;
     put_time_or_dash(out, found.due)?;
-    put_row_end(out, late, found.last)
+    put_row_end(out, late, late_by(moment, found.due), found.last)
 }
 
 #[tactic(auto, unfolding(crate::specs::Rows::row_top))]
@@ -105,14 +105,15 @@ fn put_cells(out: &mut Vec<u8>, found: &Found) -> Result<(), AllocError>
 }
 
 #[tactic(auto, unfolding(crate::specs::Rows::row_end))]
-fn put_row_end(out: &mut Vec<u8>, late: bool, last: Minute) -> Result<(), AllocError>
+fn put_row_end(out: &mut Vec<u8>, late: bool, by: u32, last: Minute) -> Result<(), AllocError>
     ensures { OnOk result (out.new.items
-        ≡ out.old.items ++ page_bytes (form.row_end late last)) }
+        ≡ out.old.items ++ page_bytes (form.row_end late by last)) }
 {
     fill(
         out,
         ROW_END,
         &[
+            Value::Span(by),
             Value::Day(last),
             Value::Clock(last),
             Value::Day(last),
@@ -151,5 +152,15 @@ pub(crate) fn is_late(moment: Minute, due: Option<Minute>) -> bool
     match due {
         Some(due) => due.get() < moment.get(),
         None => false,
+    }
+}
+
+/// For how many minutes it has been late.
+fn late_by(moment: Minute, due: Option<Minute>) -> u32
+    ensures { result ≡ form.late_by moment due }
+{
+    match due {
+        Some(due) => moment.get().saturating_sub(due.get()),
+        None => 0,
     }
 }

@@ -6,7 +6,7 @@ ghost use Rattle.page_core.specs.Page.{page_bytes};
 ghost use Rattle.desk_pages.specs.Workload as form;
 
 use crate::frame::{Place, put_bottom, put_top};
-use crate::markup::workload::{LOAD_ROW, LOAD_TOP, LOAD_TOTAL};
+use crate::markup::workload::{LOAD_BARS, LOAD_ROW, LOAD_TOP, LOAD_TOTAL};
 use crate::pieces::name_or;
 use crate::rows::is_of;
 use desk_model::Load;
@@ -44,20 +44,46 @@ fn put_rows(out: &mut Vec<u8>, caller: &str, whole: u32, loads: &[Load]) -> Resu
     Ok(())
 }
 
-#[tactic(auto, unfolding(crate::specs::Workload::load_row))]
 fn put_row(out: &mut Vec<u8>, caller: &str, whole: u32, load: &Load) -> Result<(), AllocError>
     ensures { OnOk result (out.new.items
         ≡ out.old.items ++ page_bytes (form.load_row caller.now whole load.now)) }
 {
-    let flags = [
-        is_of(caller, &load.owner),
-        load.owner.is_none(),
-        load.overdue != 0,
-    ];
+    let mine = is_of(caller, &load.owner);
+    put_row_of(out, name_or(&load.owner, "Nobody"), mine, whole, load)
+}
+
+/// Puts a row with the owner's name.
+#[tactic(auto, unfolding(crate::specs::Workload::load_row_of))]
+fn put_row_of(
+    out: &mut Vec<u8>,
+    owner: &str,
+    mine: bool,
+    whole: u32,
+    load: &Load,
+) -> Result<(), AllocError>
+    ensures { OnOk result (out.new.items
+        ≡ out.old.items ++ page_bytes (form.load_row_of owner.now mine whole load.now)) }
+{
     let values = [
-        Value::Text(name_or(&load.owner, "Nobody")),
+        Value::Text(owner),
+        Value::Text(owner),
+        Value::Text(owner),
         Value::Number(load.live),
+        Value::Text(owner),
         Value::Number(load.overdue),
+    ];
+    let flags = [mine, load.owner.is_none(), load.overdue != 0];
+    fill(out, LOAD_ROW, &values, &flags)?;
+    put_bars(out, whole, load)
+}
+
+/// Puts the end of a row: how much is open and late, as bars.
+#[tactic(auto, unfolding(crate::specs::Workload::bars))]
+fn put_bars(out: &mut Vec<u8>, whole: u32, load: &Load) -> Result<(), AllocError>
+    ensures { OnOk result (out.new.items
+        ≡ out.old.items ++ page_bytes (form.bars whole load.now)) }
+{
+    let values = [
         Value::Number(whole),
         Value::Number(load.live),
         Value::Number(load.live),
@@ -65,7 +91,7 @@ fn put_row(out: &mut Vec<u8>, caller: &str, whole: u32, load: &Load) -> Result<(
         Value::Number(load.overdue),
         Value::Number(load.overdue),
     ];
-    fill(out, LOAD_ROW, &values, &flags)
+    fill(out, LOAD_BARS, &values, &[])
 }
 
 #[tactic(auto, unfolding(crate::specs::Workload::total))]

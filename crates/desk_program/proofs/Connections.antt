@@ -5,7 +5,7 @@ use Rattle.std.specs.Prelude.{⊤}
 use Rattle.sqlite.specs.State.{State}
 use Rattle.settings_core.specs.declared.settings.Settings.{Settings}
 use Rattle.desk_model.specs.Desk.{Desk}
-use Rattle.service_core.specs.TableSteps.{LeadsOn}
+use Rattle.service_core.specs.TableSteps.{OverTables}
 use Rattle.store_tables.specs.Calls.{WasClean}
 use Rattle.wire_core.proofs.Stepping.{leads_nowhere, leads_wider, spared_stays, stream_leads}
 use Rattle.wire_core.specs.Served.{IsServed}
@@ -21,7 +21,7 @@ use Rattle.desk_program.specs.declared.listening.CountedListener.{CountedListene
 
 connection_leads : (s : Settings) (at : ℕ) (answered : Bool) (old new : State)
     → AnswersAt s at answered old new
-    → LeadsOn s (λ desk after. AnswersConnection s answered desk after) old new
+    → OverTables s (λ desk after. AnswersConnection s answered desk after) old new
 connection_leads s at true old new did =
     leads_wider s _ _ old new (λ desk after steps. (at, did.0, did.1, did.2, steps))
     (stream_leads s at did.0 did.1 did.2 old new did.3)
@@ -40,9 +40,9 @@ served s at had left before after (Err NoMemory) old new did = absurd did
 
 one_more : (s t : Settings) (at : ℕ) (earlier : List Bool) (answered : Bool)
     (old mid new : State) → t ≡ s
-    → LeadsOn s (λ desk after. AnswersConnections s earlier desk after) old mid → WasClean mid new
+    → OverTables s (λ desk after. AnswersConnections s earlier desk after) old mid → WasClean mid new
     → AnswersAt t at answered mid new
-    → LeadsOn s (λ desk after. AnswersConnections s (answered ∷ earlier) desk after) old new
+    → OverTables s (λ desk after. AnswersConnections s (answered ∷ earlier) desk after) old new
 one_more s t at earlier answered old mid new same led honest did desk is stand clean =
     let so_far = led desk is stand (honest clean) in
     let here = subst (λ (x : Settings). AnswersAt x at answered mid new) same did in

@@ -6,12 +6,12 @@ use Rattle.settings_core.specs.declared.settings.Settings.{Settings}
 use Rattle.desk_model.specs.declared.command.Command.{Command}
 use Rattle.store_tables.specs.declared.fault.StoreFault.TheVariants.{Refused}
 use Rattle.store_tables.specs.Contents.{contents_of}
-use Rattle.store_tables.specs.Stands.{StandsFor}
+use Rattle.store_tables.specs.Stands.{Represents}
 use Rattle.service_core.specs.Attaching.{FailsOver, TellsKnown}
 use Rattle.desk_model.specs.Desk.{Desk, empty_desk}
 use Rattle.desk_model.specs.IsDesk.{IsDesk}
 use Rattle.desk_model.specs.Known.{is_known}
-use Rattle.service_core.specs.TableSteps.{StepsOn, ask_by}
+use Rattle.service_core.specs.TableSteps.{StepOverTables, ask_by}
 use Rattle.desk_model.specs.Step.{Outcome}
 use Rattle.desk_texts.specs.Texts.{outcome_text}
 use Rattle.service_core.specs.declared.fault.AttachFault.{AttachFault}
@@ -48,7 +48,7 @@ left_out s line tables asked =
 -- a command that was done
 pub led_by_step : (s : Settings) (at : ℕ) (caller : List ℕ) (command : Command)
     (outcome : Outcome) (old new : State) (text : List ℕ) → text ≡ outcome_text outcome
-    → StepsOn s (ask_by at caller command) outcome old new
+    → StepOverTables s (ask_by at caller command) outcome old new
     → LineLeads s (Asked at caller command) text old new
 led_by_step s at caller command outcome old new text told steps desk formed stands clean =
     let done = steps desk formed stands clean in
@@ -77,7 +77,7 @@ knows_empty s = refl
 -- where the settings aren't attached, memory or the store refused it
 refused_alone : (s : Settings) (fault : AttachFault) (old new : State)
     → (fault ≡ UnknownName → TellsKnown s old new false) → FailsOver old new fault
-    → StandsFor empty_desk old → HasCleanDisk new → (fault ≡ NoMemory) ⊎ (fault ≡ Store Refused)
+    → Represents empty_desk old → HasCleanDisk new → (fault ≡ NoMemory) ⊎ (fault ≡ Store Refused)
 refused_alone s fault old new unknown fails empty clean =
     elim (fails (contents_of empty.0 empty_desk) empty.1 clean) [
       | inl e ↦ absurd (let no = unknown e empty_desk empty_is_desk empty clean in
@@ -88,7 +88,7 @@ refused_alone s fault old new unknown fails empty clean =
 -- and that is what is printed
 pub not_attached : (s : Settings) (commands : List ℕ) (fault : AttachFault) (old new : State)
     → (fault ≡ UnknownName → TellsKnown s old new false) → FailsOver old new fault
-    → StandsFor empty_desk old → HasCleanDisk new
+    → Represents empty_desk old → HasCleanDisk new
     → IsCommandsOutput (Ok s) commands (attach_fault_text fault) 4
 not_attached s commands fault old new unknown fails empty clean =
     elim (refused_alone s fault old new unknown fails empty clean) [

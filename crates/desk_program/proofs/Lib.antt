@@ -1,4 +1,5 @@
 pub mod Connections
+mod Examples
 pub mod InputFaults
 pub mod LedLines
 pub mod LongInput

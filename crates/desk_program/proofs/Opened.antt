@@ -14,9 +14,9 @@ use Rattle.store_tables.proofs.Spared.{stands, stands_for}
 use Rattle.store_tables.specs.Calls.{WasClean}
 use Rattle.store_tables.specs.Contents.{Contents, contents_of, first_contents_of}
 use Rattle.store_tables.specs.Making.{IsBlank, IsKnown}
-use Rattle.store_tables.specs.Stands.{FirstStand, Stand, StandsFor}
+use Rattle.store_tables.specs.Stands.{FirstHoldCommitted, HoldCommitted, Represents}
 use Rattle.desk_program.specs.Opening.{AreOpened, FailsToAttach, IsNotAttached, IsOpened}
-use Rattle.desk_program.specs.Opening.{StoodFor}
+use Rattle.desk_program.specs.Opening.{RepresentsAnyVersion}
 
 pub opened : {D E : Type 0} (r : Result D E) (text : List ℕ) (s : Settings) (old : State)
     (attached : D → Settings) (tables : D → State) → IsSettingsOf text s
@@ -34,26 +34,26 @@ two : ◌≢◌ {A = ℕ} 2 1
 two e = absurd (omega arith)
 
 -- tables that are left stand for the desk that they stood for
-pub left_for : (old new : State) → LeavesOthers old new → (desk : Desk) → StandsFor desk old
-    → StandsFor desk new
+pub left_for : (old new : State) → LeavesOthers old new → (desk : Desk) → Represents desk old
+    → Represents desk new
 left_for old new kept desk stand = (stand.0, kept (contents_of stand.0 desk) two stand.1)
 
 -- tables of version 1 are brought on
 abbrev pub BringsOn : State → State → Type 0
 BringsOn old mid =
     (desk : Desk) → IsDesk desk → (due : RequestRow → Option ℕ)
-    → FirstStand (first_contents_of due desk) old → Stand (contents_of due desk) mid
+    → FirstHoldCommitted (first_contents_of due desk) old → HoldCommitted (contents_of due desk) mid
 
 -- and so they all stand for their desk when they were made
 pub brought : (old mid : State) → LeavesOthers old mid → BringsOn old mid → (desk : Desk)
-    → IsDesk desk → StoodFor desk old → StandsFor desk mid
+    → IsDesk desk → RepresentsAnyVersion desk old → Represents desk mid
 brought old mid kept on desk formed (inl stand) = left_for old mid kept desk stand
 brought old mid kept on desk formed (inr first) = (first.0, on desk formed first.0 first.1)
 
 -- the tables were made, and then the settings weren't attached
 pub made_not_attached : (s : Settings) (old mid new : State) (fault : AttachFault)
     → LeavesOthers old mid → BringsOn old mid → WasClean old mid
-    → (IsBlank old → StandsFor empty_desk mid)
+    → (IsBlank old → Represents empty_desk mid)
     → ((c : Contents) → HoldsPart c old → HasCleanDisk mid → IsKnown c.version)
     → FailsToAttach s mid new fault → IsNotAttached s old new fault
 made_not_attached s old mid new fault kept on honest made version fails =

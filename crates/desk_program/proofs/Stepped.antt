@@ -21,11 +21,11 @@ use Rattle.desk_reports.specs.declared.fault.StreamFault.{StreamFault}
 use Rattle.desk_reports.specs.declared.fault.StreamFault.TheVariants.{Refused, Write}
 use Rattle.desk_texts.specs.Texts.{outcome_text, refusal_text}
 use Rattle.service_core.specs.Streaming.{IsStreamed, is_list}
-use Rattle.service_core.specs.TableSteps.{LeadsOn, StepsOn, ask_by}
+use Rattle.service_core.specs.TableSteps.{OverTables, StepOverTables, ask_by}
 use Rattle.store_tables.proofs.Spared.{stands}
-use Rattle.store_tables.specs.Calls.{Spares, WasClean}
+use Rattle.store_tables.specs.Calls.{LeavesTables, WasClean}
 use Rattle.store_tables.specs.Contents.{contents_of}
-use Rattle.store_core.specs.Due.{StandsDue, due_of_row}
+use Rattle.store_core.specs.Due.{RepresentsWithDue, due_of_row}
 use Rattle.desk_program.specs.FaultLines.{unavailable_text}
 use Rattle.desk_program.specs.One.{IsDone, IsGivenOutput, TakesStep, TellsStep}
 use Rattle.desk_program.specs.One.{status_of}
@@ -35,8 +35,8 @@ use Rattle.desk_program.proofs.LedLines.{knows_empty}
 -- a command that was done
 pub stepped : (s : Settings) (at : ℕ) (caller : List ℕ) (command : Command) (outcome : Outcome)
     (failed : Bool) (old new : State) (text : List ℕ) (status : ℕ) → text ≡ outcome_text outcome
-    → status ≡ status_of outcome → StepsOn s (ask_by at caller command) outcome old new
-    → LeadsOn s (TakesStep s (ask_by at caller command) failed text status) old new
+    → status ≡ status_of outcome → StepOverTables s (ask_by at caller command) outcome old new
+    → OverTables s (TakesStep s (ask_by at caller command) failed text status) old new
 stepped s at caller command outcome failed old new text status told ends steps desk formed stands clean =
     let done = steps desk formed stands clean in
     (done.0, (inl (outcome, done.1.0.step, told, ends), done.1.1), done.2)
@@ -64,7 +64,7 @@ known_after s text ask failed line status old new stated formed known takes =
 -- the tables were opened, and the command was done
 pub done_once_opened : (s : Settings) (text : List ℕ) (ask : Ask) (failed : Bool)
     (old mid new : State) (line : List ℕ) (status : ℕ) → IsOpened text old s mid
-    → WasClean mid new → LeadsOn s (TakesStep s ask failed line status) mid new
+    → WasClean mid new → OverTables s (TakesStep s ask failed line status) mid new
     → IsDone s ask failed old new line status
 done_once_opened s text ask failed old mid new line status is honest leads desk formed (inl stand)
     clean =
@@ -78,8 +78,8 @@ done_once_opened s text ask failed old mid new line status is honest leads desk 
     )
 done_once_opened s text ask failed old mid new line status is honest leads desk formed (inr none)
     clean =
-    let begins : StandsDue s desk mid =
-    subst (λ (d : Desk). StandsDue s d mid) (sym none.1) (is.made none.0) in
+    let begins : RepresentsWithDue s desk mid =
+    subst (λ (d : Desk). RepresentsWithDue s d mid) (sym none.1) (is.made none.0) in
     let known : is_known s desk ≡ true =
     subst (λ (d : Desk). is_known s d ≡ true) (sym none.1) (knows_empty s) in
     let led = leads desk formed begins clean in (
@@ -101,28 +101,28 @@ not_opened g (Ok settings) ask failed old new line status told = inl told
 -- ---- a list
 
 module _ (s : Settings) (at : ℕ) (caller : List ℕ) (command : Command) (old new : State)
-    (kept : Spares old new) (listed : is_list command ≡ true) where
+    (kept : LeavesTables old new) (listed : is_list command ≡ true) where
   abbrev ask : Ask
   ask = ask_by at caller command
 
   abbrev Came : Result ⊤ StreamFault → List ℕ → Type 0
   Came result printed =
-      (desk : Desk) → IsDesk desk → StandsDue s desk old → HasCleanDisk new
+      (desk : Desk) → IsDesk desk → RepresentsWithDue s desk old → HasCleanDisk new
       → IsStreamed s ask desk result printed
 
-  still : (desk : Desk) → StandsDue s desk old → StandsDue s desk new
+  still : (desk : Desk) → RepresentsWithDue s desk old → RepresentsWithDue s desk new
   still desk stand = stands kept (contents_of (due_of_row s desk) desk) stand
 
   -- it was written whole
   pub list_printed : (failed : Bool) (printed : List ℕ) → Came (Ok tt) printed
-      → LeadsOn s (TakesStep s ask failed printed 0) old new
+      → OverTables s (TakesStep s ask failed printed 0) old new
   list_printed failed printed came desk formed stand clean =
       let it = came desk formed stand clean in
       (desk, (inl (Ok it.0, it.1.step, it.2, refl), formed), still desk stand)
 
   -- a write failed in it
   pub list_failed : (failed : Bool) (printed : List ℕ) (status : ℕ) → failed ≡ true
-      → Came (Err Write) printed → LeadsOn s (TakesStep s ask failed printed status) old new
+      → Came (Err Write) printed → OverTables s (TakesStep s ask failed printed status) old new
   list_failed failed printed status is came desk formed stand clean =
       let it = came desk formed stand clean in (
         desk,
@@ -133,7 +133,7 @@ module _ (s : Settings) (at : ℕ) (caller : List ℕ) (command : Command) (old 
   -- it was refused, maybe in its middle, and that is told, or that there was no memory to tell it
   pub list_refused : (failed : Bool) (printed : List ℕ) (refusal told : Refusal)
       → (told ≡ refusal) ⊎ (told ≡ Unavailable) → Came (Err (Refused refusal)) printed
-      → LeadsOn s (TakesStep s ask failed (printed ++ refusal_text told) 1) old new
+      → OverTables s (TakesStep s ask failed (printed ++ refusal_text told) 1) old new
   list_refused failed printed refusal told which came desk formed stand clean = (
     desk,
     (

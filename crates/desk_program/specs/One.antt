@@ -17,14 +17,14 @@ use Rattle.desk_texts.specs.Texts.{answer_text, outcome_text}
 use Rattle.desk_words.specs.Spelling.{command_of}
 use Rattle.service_core.specs.Streaming.{IsBeginningOf, is_list}
 use Rattle.service_core.specs.TableSteps.{ask_by}
-use Rattle.store_core.specs.Due.{StandsDue}
+use Rattle.store_core.specs.Due.{RepresentsWithDue}
 use Rattle.store_tables.specs.Making.{IsBlank}
 use Rattle.stream_core.specs.Seen.{has_write_failed}
 use Rattle.stream_core.specs.Written.{Prints}
 use Rattle.stream_core.specs.declared.writer.CountedWriter.{CountedWriter}
 use Rattle.desk_program.specs.FaultLines.{unavailable_text}
 use Rattle.desk_program.specs.Input.{GivesSettings}
-use Rattle.desk_program.specs.Opening.{IsOpeningFault, StoodFor}
+use Rattle.desk_program.specs.Opening.{IsOpeningFault, RepresentsAnyVersion}
 use Rattle.desk_program.specs.Script.{bad_words_text}
 
 -- what is asked: the text of the settings, a moment, a caller, and the words of a command
@@ -69,7 +69,7 @@ TakesStep settings ask failed line status old new =
 -- the desk with which the tables begin: the one that they stand for, in the present version or the
 -- first, or the empty one where there is no table at all
 abbrev pub BeginsWith : Desk → State → Type 0
-BeginsWith desk tables = StoodFor desk tables ⊎ (IsBlank tables × (desk ≡ empty_desk))
+BeginsWith desk tables = RepresentsAnyVersion desk tables ⊎ (IsBlank tables × (desk ≡ empty_desk))
 
 -- The command was done, and a write of its text failed or not: whatever desk the tables begin with,
 -- the settings know its names, and the tables stand afterwards for the desk to which one step leads,
@@ -79,7 +79,7 @@ IsDone settings ask failed old new line status =
     (desk : Desk) → IsDesk desk → BeginsWith desk old → HasCleanDisk new
     → (after : Desk) × (is_known settings desk ≡ true)
     × (TakesStep settings ask failed line status desk after × IsDesk after)
-    × StandsDue settings after new × (is_known settings after ≡ true)
+    × RepresentsWithDue settings after new × (is_known settings after ≡ true)
 
 -- ---- what is printed, and the status
 
@@ -113,7 +113,7 @@ IsOneOutput g asked failed old new line status =
     line status
 
 -- One command was run on the tables of a connection, and its text was printed.
-pub record RunsOne {S W : Type 0} (g : Ghosts S) (contents : W → Option (List ℕ)) (asked : Asked)
+pub record RunsCommand {S W : Type 0} (g : Ghosts S) (contents : W → Option (List ℕ)) (asked : Asked)
     (old new : Held S) (before after : CountedWriter W) (ended : ℕ) : Type 0 where
   -- the text of the answer, of the refusal or of the fault, or of a list that was cut short
   pub text : List ℕ

@@ -13,12 +13,12 @@ use Rattle.settings_core.specs.Reading.{IsSettingsOf}
 use Rattle.service_core.specs.Attaching.{BlamesBad, FailsOver, TellsKnown}
 use Rattle.service_core.specs.declared.fault.AttachFault.{AttachFault}
 use Rattle.service_core.specs.declared.fault.AttachFault.TheVariants.{NoMemory, Store, UnknownName}
-use Rattle.store_core.specs.Due.{StandsDue}
+use Rattle.store_core.specs.Due.{RepresentsWithDue}
 use Rattle.store_core.specs.Migrating.{HoldsPart, LeavesOthers}
-use Rattle.store_tables.specs.Calls.{AreLeft, Lasts, Spares, WasClean}
+use Rattle.store_tables.specs.Calls.{AreLeft, KeepsConnection, LeavesTables, WasClean}
 use Rattle.store_tables.specs.Contents.{Contents}
 use Rattle.store_tables.specs.Making.{IsBlank, IsKnown}
-use Rattle.store_tables.specs.Stands.{FirstStandsFor, Stand, StandsFor}
+use Rattle.store_tables.specs.Stands.{FirstStandsFor, HoldCommitted, Represents}
 use Rattle.store_tables.specs.declared.fault.StoreFault.{StoreFault}
 use Rattle.store_tables.specs.declared.fault.StoreFault.TheVariants.{Refused, WrongVersion}
 use Rattle.stream_core.specs.Seen.{has_write_failed}
@@ -28,19 +28,19 @@ use Rattle.desk_program.specs.FaultLines.{attach_fault_text, settings_fault_text
 use Rattle.desk_program.specs.Input.{GivesSettings}
 
 -- tables of the present version, or of the first, stand for the desk
-abbrev pub StoodFor : Desk → State → Type 0
-StoodFor desk s = StandsFor desk s ⊎ FirstStandsFor desk s
+abbrev pub RepresentsAnyVersion : Desk → State → Type 0
+RepresentsAnyVersion desk s = Represents desk s ⊎ FirstStandsFor desk s
 
 -- whatever desk the tables stood for they stand for still, in the present version, and keep its due
 -- moments
 abbrev pub ComesToStand : Settings → State → State → Type 0
 ComesToStand settings old new =
-    (desk : Desk) → IsDesk desk → StoodFor desk old → StandsDue settings desk new
+    (desk : Desk) → IsDesk desk → RepresentsAnyVersion desk old → RepresentsWithDue settings desk new
 
 -- whether the settings know each name of whatever desk the tables stood for
 abbrev pub ToldKnown : Settings → State → State → Bool → Type 0
 ToldKnown settings old new known =
-    (desk : Desk) → IsDesk desk → StoodFor desk old → HasCleanDisk new
+    (desk : Desk) → IsDesk desk → RepresentsAnyVersion desk old → HasCleanDisk new
     → is_known settings desk ≡ known
 
 -- ---- what is opened
@@ -52,7 +52,7 @@ pub record AreOpened (given : Settings) (old : State) (settings : Settings) (new
     -- whatever desk the tables stood for they stand for still, and keep its due moments
     pub renewed : ComesToStand given old new
     -- where there was no table at all, they stand for the empty desk
-    pub made : IsBlank old → StandsDue given empty_desk new
+    pub made : IsBlank old → RepresentsWithDue given empty_desk new
     -- the settings know each name of the desk that the tables stood for
     pub known : ToldKnown given old new true
 
@@ -62,7 +62,7 @@ pub record IsOpened (text : List ℕ) (old : State) (settings : Settings) (new :
   -- whatever desk the tables stood for they stand for still, and keep its due moments
   pub renewed : ComesToStand settings old new
   -- where there was no table at all, they stand for the empty desk
-  pub made : IsBlank old → StandsDue settings empty_desk new
+  pub made : IsBlank old → RepresentsWithDue settings empty_desk new
   -- the settings know each name of the desk that the tables stood for
   pub known : ToldKnown settings old new true
 
@@ -87,7 +87,7 @@ pub record IsNotMade (old new : State) (fault : StoreFault) : Type 0 where
   -- a disk that is clean afterwards was clean before
   pub honest : WasClean old new
   -- no fault of the disk is forgotten, and only one shuts what was open
-  pub lasts : Lasts old new
+  pub lasts : KeepsConnection old new
 
 -- over tables that hold values, a fault of attaching is an unknown name, or the store or memory
 -- refused it
@@ -98,7 +98,7 @@ IsFaultOverValues fault = (fault ≡ UnknownName) ⊎ ((fault ≡ NoMemory) ⊎ 
 pub record FailsToAttach (settings : Settings) (old new : State) (fault : AttachFault) : Type 0
   where
     -- the tables are as they were, whatever rows they have
-    pub kept : Spares old new
+    pub kept : LeavesTables old new
     -- a disk that is clean afterwards was clean before
     pub honest : WasClean old new
     -- a name is told to be unknown only where the settings lack one of the desk
@@ -115,19 +115,19 @@ pub record IsNotAttached (settings : Settings) (old new : State) (fault : Attach
     -- what tables of another version than 1 held they hold still
     pub kept : LeavesOthers old new
     -- those of version 1 stand for their desk in the present version
-    pub first : (desk : Desk) → IsDesk desk → FirstStandsFor desk old → StandsFor desk new
+    pub first : (desk : Desk) → IsDesk desk → FirstStandsFor desk old → Represents desk new
     -- a disk that is clean afterwards was clean before
     pub honest : WasClean old new
     -- a name is told to be unknown only where the settings lack one of the desk
     pub unknown : fault ≡ UnknownName → ToldKnown settings old new false
     -- over tables that hold values nothing else can be wrong, but that the store or memory refused
-    pub fails : (c : Contents) → c.version ≢ 1 → Stand c old → HasCleanDisk new
+    pub fails : (c : Contents) → c.version ≢ 1 → HoldCommitted c old → HasCleanDisk new
         → IsFaultOverValues fault
     -- and so over those of version 1 that stood for a desk
     pub fails_first : (desk : Desk) → IsDesk desk → FirstStandsFor desk old → HasCleanDisk new
         → IsFaultOverValues fault
     -- where there was no table at all, they stand for the empty desk
-    pub made : IsBlank old → StandsFor empty_desk new
+    pub made : IsBlank old → Represents empty_desk new
     -- the tables were of a known version
     pub version : (c : Contents) → HoldsPart c old → HasCleanDisk new → IsKnown c.version
 

@@ -11,7 +11,7 @@ use Rattle.settings_core.specs.declared.settings.Settings.{Settings}
 use Rattle.desk_model.specs.declared.command.Command.{Command}
 use Rattle.store_tables.specs.declared.fault.StoreFault.TheVariants.{Refused}
 use Rattle.desk_model.specs.Desk.{Desk, empty_desk}
-use Rattle.service_core.specs.TableSteps.{LeadsOn}
+use Rattle.service_core.specs.TableSteps.{OverTables}
 use Rattle.desk_model.specs.Step.{Ask, Outcome, Runs, Steps}
 use Rattle.desk_texts.specs.Texts.{outcome_text}
 use Rattle.service_core.specs.declared.fault.AttachFault.TheVariants.{NoMemory, Store}
@@ -80,7 +80,7 @@ LinePrints settings (Asked at caller command) old text new =
 -- one, which the line leaves
 abbrev pub LineLeads : Settings → Line → List ℕ → State → State → Type 0
 LineLeads settings line text =
-    LeadsOn settings (λ desk after. LinePrints settings line desk text after)
+    OverTables settings (λ desk after. LinePrints settings line desk text after)
 
 -- whatever a connection shows, its disk is clean
 abbrev pub HasCleanDisks : {S : Type 0} → Ghosts S → Type 0

@@ -4,7 +4,7 @@ use Rattle.std.specs.Prelude.{Option}
 use Rattle.sqlite.specs.State.{State}
 use Rattle.settings_core.specs.declared.settings.Settings.{Settings}
 use Rattle.desk_model.specs.Desk.{Desk}
-use Rattle.service_core.specs.TableSteps.{LeadsOn}
+use Rattle.service_core.specs.TableSteps.{OverTables}
 use Rattle.wire_core.specs.Steps.{StreamSteps}
 use Rattle.desk_program.specs.Listening.{accepted_of, answered_of, asked_of, count_of}
 use Rattle.desk_program.specs.Listening.{has_accept_failed}
@@ -42,7 +42,7 @@ pub record AnswersAll {L : Type 0} (settings : Settings) (listener : CountedList
   pub accepted : length connections ≡ accepted_of listener
   pub answered : answered_in connections ≡ answered_of listener
   pub unread : unread_in connections ≡ unread_of listener
-  pub led : LeadsOn settings (λ desk after. AnswersConnections settings connections desk after) old
+  pub led : OverTables settings (λ desk after. AnswersConnections settings connections desk after) old
       new
 
 -- all connections were accepted, with status 0; or one of them couldn't be, with status 4, and no

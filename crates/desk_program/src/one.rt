@@ -8,13 +8,13 @@ ghost use Rattle.store_core.specs.Seen.{connection_of, state_of};
 ghost use Rattle.store_tables.specs.Calls.{WasClean};
 ghost use Rattle.service_core.specs.Seen.{settings_of, tables_of};
 ghost use Rattle.service_core.specs.Streaming.{is_list};
-ghost use Rattle.service_core.specs.TableSteps.{LeadsOn, ask_by};
+ghost use Rattle.service_core.specs.TableSteps.{OverTables, ask_by};
 ghost use Rattle.stream_core.specs.Seen.{HaveOneWriter, has_write_failed};
 ghost use Rattle.stream_core.specs.Written.{Prints};
 ghost use Rattle.desk_model.specs.declared.refusal.Refusal.{Refusal};
 ghost use Rattle.desk_texts.specs.Texts.{refusal_text};
 ghost use Rattle.desk_program.specs.One as one;
-ghost use Rattle.desk_program.specs.One.{RunsOne, TakesStep, asked_by};
+ghost use Rattle.desk_program.specs.One.{RunsCommand, TakesStep, asked_by};
 ghost use Rattle.desk_program.specs.Status.{code_of};
 
 use crate::fault_lines::{put_bad_words, put_unavailable};
@@ -54,7 +54,7 @@ pub fn run_one<S: Backend, W: Write>(
 ) -> (u8, Store<S>)
     requires { has_write_failed output.old ≡ false }
     ensures same_writer { HaveOneWriter output.new output.old }
-    ensures ran { RunsOne S.Store W.contents
+    ensures ran { RunsCommand S.Store W.contents
         (asked_by settings.now at caller.now (map string_bytes words.now))
         (connection_of S.Store store) (connection_of S.Store result.1)
         output.old output.new result.0 }
@@ -134,7 +134,7 @@ fn run_on_desk<S: Backend, W: Write>(
     requires { has_write_failed output.old ≡ false }
     ensures same_writer { HaveOneWriter output.new output.old }
     ensures printed { (line : List ℕ)
-        × LeadsOn (settings_of S.Store desk)
+        × OverTables (settings_of S.Store desk)
         (TakesStep (settings_of S.Store desk) (ask_by at caller.now command.now)
         (has_write_failed output.new) line (code_of result.0)) (tables_of S.Store desk)
         (state_of S.Store result.1)
@@ -160,7 +160,7 @@ fn run_step<S: Backend, W: Write>(
     requires { has_write_failed output.old ≡ false }
     ensures same_writer { HaveOneWriter output.new output.old }
     ensures printed { (line : List ℕ)
-        × LeadsOn (settings_of S.Store desk.old)
+        × OverTables (settings_of S.Store desk.old)
         (TakesStep (settings_of S.Store desk.old) (ask_by at caller.now command.now)
         (has_write_failed output.new) line (code_of result)) (tables_of S.Store desk.old)
         (tables_of S.Store desk.new)
@@ -189,7 +189,7 @@ fn run_list<S: Backend, W: Write>(
     requires unfailed { has_write_failed output.old ≡ false }
     ensures same_writer { HaveOneWriter output.new output.old }
     ensures printed { (line : List ℕ)
-        × LeadsOn (settings_of S.Store desk.old)
+        × OverTables (settings_of S.Store desk.old)
         (TakesStep (settings_of S.Store desk.old) (ask_by at caller.now command.now)
         (has_write_failed output.new) line (code_of result)) (tables_of S.Store desk.old)
         (tables_of S.Store desk.new)
@@ -233,7 +233,7 @@ fn run_whole<S: Backend, W: Write>(
 ) -> Status
     ensures same_writer { HaveOneWriter output.new output.old }
     ensures printed { (line : List ℕ)
-        × LeadsOn (settings_of S.Store desk.old)
+        × OverTables (settings_of S.Store desk.old)
         (TakesStep (settings_of S.Store desk.old) (ask_by at caller.now command.now)
         (has_write_failed output.new) line (code_of result)) (tables_of S.Store desk.old)
         (tables_of S.Store desk.new)

@@ -4,9 +4,9 @@
 //! would be taken apart for each function's own proof.
 ghost use Rattle.std.specs.Prelude.{◌≡◌, ℕ, List, Ok};
 ghost use Rattle.store_tables.specs.Making.{IsBlank};
-ghost use Rattle.store_core.specs.Due.{StandsDue};
+ghost use Rattle.store_core.specs.Due.{RepresentsWithDue};
 ghost use Rattle.store_core.specs.Seen.{state_of};
-ghost use Rattle.store_tables.specs.Stands.{StandsFor};
+ghost use Rattle.store_tables.specs.Stands.{Represents};
 ghost use Rattle.desk_model.specs.Desk.{empty_desk};
 ghost use Rattle.service_core.specs.Leaves.{LeavesDesk};
 ghost use Rattle.service_core.specs.Seen.{settings_of, tables_of};
@@ -88,7 +88,7 @@ fn run_on_tables<S: Backend + Drop, W: Write>(
     memory: Memory,
 ) -> Status
     requires clean { HasCleanDisks S.Store }
-    requires empty { StandsFor empty_desk (state_of S.Store store) }
+    requires empty { Represents empty_desk (state_of S.Store store) }
     ensures same_writer { HaveOneWriter output.new output.old }
     ensures printed { (text : List ℕ)
         × IsCommandsOutput (Ok settings) commands.now text (code_of result)
@@ -124,7 +124,7 @@ fn run_lines<S: Backend, W: Write>(
     output: &mut CountedWriter<'_, W>,
 )
     requires clean { HasCleanDisks S.Store }
-    requires empty { StandsDue (settings_of S.Store desk.old) empty_desk
+    requires empty { RepresentsWithDue (settings_of S.Store desk.old) empty_desk
         (tables_of S.Store desk.old) }
     ensures same_writer { HaveOneWriter output.new output.old }
     ensures printed { (text : List ℕ)

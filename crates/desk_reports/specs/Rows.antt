@@ -9,10 +9,10 @@ use Rattle.desk_model.specs.IsDesk.{IsDesk}
 use Rattle.desk_model.specs.declared.rows.RequestRow.{RequestRow}
 use Rattle.desk_model.specs.declared.rows.Watcher.{Watcher}
 use Rattle.report_core.specs.Rows.{WatchesRise}
-use Rattle.store_tables.specs.Calls.{Spares}
+use Rattle.store_tables.specs.Calls.{LeavesTables}
 use Rattle.store_tables.specs.Contents.{contents_of}
 use Rattle.store_tables.specs.Contents.Request.{Dated}
-use Rattle.store_tables.specs.Stands.{Stand}
+use Rattle.store_tables.specs.Stands.{HoldCommitted}
 use Rattle.store_core.specs.Ahead.{HasGiven}
 use Rattle.store_core.specs.Seen.{state_of}
 use Rattle.store_core.specs.declared.rows.Progress.TheVariants.{Reading}
@@ -40,14 +40,14 @@ ReadOneStore g a b = a.store.ghost_name ≡ b.store.ghost_name
 -- they were.
 pub record LeavesRows {S : Type 0} (g : Ghosts S) (old new : RequestRows S g) : Type 0 where
   pub same_store : ReadOneStore g new old
-  pub kept : Spares (state_of g (store_of g old)) (state_of g (store_of g new))
+  pub kept : LeavesTables (state_of g (store_of g old)) (state_of g (store_of g new))
 
 -- of whatever desk the tables stand for, and whatever due moments, at the first of two rows
 abbrev pub OfEachDesk : {S : Type 0} (g : Ghosts S) → RequestRows S g → RequestRows S g
     → ((RequestRow → Option ℕ) → Desk → Type 0) → Type 0
 OfEachDesk g old new P =
     (desk : Desk) → IsDesk desk → (due : RequestRow → Option ℕ)
-    → Stand (contents_of due desk) (state_of g (store_of g old))
+    → HoldCommitted (contents_of due desk) (state_of g (store_of g old))
     → HasCleanDisk (state_of g (store_of g new)) → P due desk
 
 -- after the rows that were given, the text of the next was gathered, or nothing, since they were

@@ -5,7 +5,7 @@ use Rattle.settings_core.specs.declared.settings.Settings.{Settings}
 use Rattle.desk_model.specs.Desk.{Desk}
 use Rattle.desk_model.specs.IsDesk.{IsDesk}
 use Rattle.desk_model.specs.declared.refusal.Refusal.TheVariants.{Unavailable}
-use Rattle.store_core.specs.Due.{StandsDue}
+use Rattle.store_core.specs.Due.{RepresentsWithDue}
 use Rattle.stream_core.specs.Seen.{HaveOneWriter, has_write_failed}
 use Rattle.stream_core.specs.Written.{Prints}
 use Rattle.stream_core.specs.declared.writer.CountedWriter.{CountedWriter}
@@ -36,5 +36,5 @@ abbrev pub WritesText : {W : Type 0} → Settings → (Desk → List ℕ) → St
     → (W → Option (List ℕ)) → CountedWriter W → CountedWriter W → Result ⊤ StreamFault → Type 0
 WritesText settings text old new contents before after result =
     (printed : List ℕ) × Prints contents before after printed
-    × ((desk : Desk) → IsDesk desk → StandsDue settings desk old → HasCleanDisk new
+    × ((desk : Desk) → IsDesk desk → RepresentsWithDue settings desk old → HasCleanDisk new
     → IsPrintedOf (text desk) printed result)

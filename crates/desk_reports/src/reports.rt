@@ -5,7 +5,7 @@ ghost use Rattle.desk_model.specs.Readings.Listing as listing;
 ghost use Rattle.desk_model.specs.Readings.Overdue as overdue;
 ghost use Rattle.desk_model.specs.Readings.Workload as workload;
 ghost use Rattle.desk_model.specs.Told as reports;
-ghost use Rattle.store_tables.specs.Calls.{Spares};
+ghost use Rattle.store_tables.specs.Calls.{LeavesTables};
 ghost use Rattle.store_core.specs.Due.{TellsDue};
 ghost use Rattle.store_core.specs.Seen.{state_of};
 
@@ -28,7 +28,7 @@ pub fn list<S: Backend>(
     ensures told { TellsDue settings.now (λ desk lines. lines
         ≡ listing.lines_of queue.now (reports.told settings.now caller.now desk))
         (state_of S.Store store.old) (state_of S.Store store.new) result }
-    ensures kept { Spares (state_of S.Store store.old) (state_of S.Store store.new) }
+    ensures kept { LeavesTables (state_of S.Store store.old) (state_of S.Store store.new) }
     ensures fault { IfErr result (λ refusal. refusal ≡ Refusal.Unavailable) }
 {
     let watches = store.watches_of(alloc, caller)?;
@@ -51,7 +51,7 @@ pub fn overdue<S: Backend>(
         (λ desk lines. lines ≡ overdue.lines_of call.entry.at
         (reports.told call.entry.settings.now call.entry.caller.now desk))
         (state_of S.Store store.old) (state_of S.Store store.new) result }
-    ensures kept { Spares (state_of S.Store store.old) (state_of S.Store store.new) }
+    ensures kept { LeavesTables (state_of S.Store store.old) (state_of S.Store store.new) }
     ensures fault { IfErr result (λ refusal. refusal ≡ Refusal.Unavailable) }
 {
     let watches = store.watches_of(alloc, call.caller)?;
@@ -74,7 +74,7 @@ pub fn workload<S: Backend>(
         ≡ workload.loads call.entry.at (filter (λ r. r.is_live)
         (reports.told call.entry.settings.now call.entry.caller.now desk)))
         (state_of S.Store store.old) (state_of S.Store store.new) result }
-    ensures kept { Spares (state_of S.Store store.old) (state_of S.Store store.new) }
+    ensures kept { LeavesTables (state_of S.Store store.old) (state_of S.Store store.new) }
     ensures fault { IfErr result (λ refusal. refusal ≡ Refusal.Unavailable) }
 {
     let watches = store.watches_of(alloc, call.caller)?;

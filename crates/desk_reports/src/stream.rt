@@ -6,7 +6,7 @@ ghost use Rattle.desk_model.specs.Readings.Overdue as overdue;
 ghost use Rattle.desk_model.specs.Told as reports;
 ghost use Rattle.desk_texts.specs.Texts.Listed as listed_text;
 ghost use Rattle.desk_texts.specs.Texts.Overdue as overdue_text;
-ghost use Rattle.store_tables.specs.Calls.{Spares};
+ghost use Rattle.store_tables.specs.Calls.{LeavesTables};
 ghost use Rattle.store_core.specs.Seen.{state_of};
 ghost use Rattle.stream_core.specs.Seen.{HaveOneWriter, has_write_failed};
 ghost use Rattle.desk_reports.specs.Streams.{IsCutBy, WritesText};
@@ -42,7 +42,7 @@ pub fn stream_list<S: Backend, W: Write>(
         (listing.lines_of queue.now (reports.told settings.now caller.now desk)))
         (state_of S.Store store.old) (state_of S.Store store.new)
         W.contents output.old output.new result }
-    ensures kept { Spares (state_of S.Store store.old) (state_of S.Store store.new) }
+    ensures kept { LeavesTables (state_of S.Store store.old) (state_of S.Store store.new) }
 {
     let watches = store.watches_of(alloc, caller)?;
     let mut rows = store.rows_of_queue(alloc, queue)?;
@@ -77,7 +77,7 @@ pub fn stream_overdue<S: Backend, W: Write>(
         (reports.told call.entry.settings.now call.entry.caller.now desk)))
         (state_of S.Store store.old) (state_of S.Store store.new)
         W.contents output.old output.new result }
-    ensures kept { Spares (state_of S.Store store.old) (state_of S.Store store.new) }
+    ensures kept { LeavesTables (state_of S.Store store.old) (state_of S.Store store.new) }
 {
     let watches = store.watches_of(alloc, call.caller)?;
     let mut rows = store.rows_overdue(alloc, call.at)?;

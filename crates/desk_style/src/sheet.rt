@@ -90,10 +90,10 @@ header {
   border-top: .25rem solid var(--fill);
 }
 header > b { font-size: 1.0625rem; letter-spacing: .01em }
-nav { display: flex; gap: .25rem; margin-right: auto }
-nav a { padding: .3125rem .625rem; border-radius: .375rem; text-decoration: none }
-nav a:hover { background: var(--wash) }
-nav a[aria-current] { background: var(--wash); font-weight: 650; text-decoration: underline }
+header nav { display: flex; gap: .25rem; margin-right: auto }
+header nav a { padding: .3125rem .625rem; border-radius: .375rem; text-decoration: none }
+header nav a:hover { background: var(--wash) }
+header nav a[aria-current] { background: var(--wash); font-weight: 650; text-decoration: underline }
 header form { display: flex; align-items: center; gap: .5rem }
 header input { width: 5.5rem }
 footer { padding: .75rem 1rem 1.25rem; color: var(--soft); font-size: .8125rem; text-align: center }
@@ -138,6 +138,13 @@ details { margin-top: 1rem }
 .sheet > :is(input, textarea):has(+ p) { margin-bottom: .25rem }
 .sheet p { color: var(--soft); font-size: .875rem; margin-bottom: .75rem }
 .sheet > button { margin-top: .25rem }
+.fields { display: grid; grid-template-columns: 1fr 1fr; gap: .5rem 2rem; max-width: none; margin-bottom: 1.25rem }
+.fields p { display: grid; grid-template-columns: 6.5rem 1fr; align-items: center; margin: 0; color: var(--ink); font-size: inherit }
+.fields p label { margin: 0 }
+.fields .tick { display: flex; gap: .5rem; padding-inline-start: 6.5rem }
+.fields .tick label { font-weight: 400 }
+.fields .how { display: block; grid-column: 1 / -1; color: var(--soft); font-size: .875rem }
+.fields > button { grid-column: 1 / -1; justify-self: start; margin: 0 }
 
 /* What stands out */
 
@@ -184,30 +191,26 @@ tr.nobody .owner { font-style: italic; color: var(--soft) }
 .tiles dd a { color: inherit; text-decoration: none }
 .tiles dd a:hover { text-decoration: underline }
 .tiles .late, td.late { color: var(--late); font-weight: 650 }
+.queues td:not(:last-child) > a, .load td > a { color: inherit; text-decoration: none }
+:is(.queues, .load) td > a:hover { text-decoration: underline }
 
-/* Which rows of a list are shown: the choice is made here, without a script */
+/* What is sought, what narrows it, and which of it a page shows */
 
-.show { display: flex; flex-wrap: wrap; align-items: center; gap: .375rem; margin-bottom: .875rem }
-.show legend { float: left; margin-right: .5rem; color: var(--soft) }
-.show label { position: relative; padding: .25rem .75rem; border: 1px solid var(--line); border-radius: 1rem; background: var(--sheet); cursor: pointer }
-.show input { position: absolute; inset: 0; width: 100%; min-height: 100%; margin: 0; opacity: 0; cursor: pointer }
-.show label:has(:checked) { background: var(--wash); border-color: var(--link); color: var(--link); font-weight: 650 }
-.show label:has(:focus-visible) { outline: 3px solid var(--focus); outline-offset: 2px }
-@supports not selector(:has(a)) { .show { display: none } }
+.pills, .chips, .paging { display: flex; flex-wrap: wrap; align-items: center; gap: .375rem; margin: 0 0 .875rem }
+.pills { gap: .375rem 1.25rem; margin-bottom: .375rem }
+.pills ul { display: flex; flex-wrap: wrap; margin: 0; padding: 0; list-style: none }
+.pills a { display: block; margin-inline-start: -1px; padding: .25rem .75rem; border: 1px solid var(--line); background: var(--sheet); text-decoration: none }
+.pills li:first-child a { border-start-start-radius: 1rem; border-end-start-radius: 1rem }
+.pills li:last-child a { border-start-end-radius: 1rem; border-end-end-radius: 1rem }
+.pills a[aria-current] { background: var(--wash); font-weight: 650; box-shadow: inset 0 -2px var(--link) }
+.chips, .paging { color: var(--soft); font-variant-numeric: tabular-nums }
+.chips a, .paging a { padding: .125rem .625rem; border: 1px solid var(--line); border-radius: .375rem; background: var(--sheet); text-decoration: none }
+.chips a { border-color: var(--link); background: var(--wash); overflow-wrap: anywhere; min-width: 0 }
+:is(.pills, .chips, .paging) a:hover { background: var(--wash); text-decoration: underline }
+details + .paging { margin-top: .875rem }
 .none { display: none; padding: 1rem; color: var(--soft); text-align: center }
-main:has(#open:checked) tr.inactive,
-main:has(#mine:checked) tbody tr:not(.mine),
-main:has(#mine:checked) tr.inactive,
-main:has(#nobody:checked) tbody tr:not(.nobody),
-main:has(#nobody:checked) tr.inactive,
-main:has(#late:checked) tbody tr:not(.late),
-main:has(#closed:checked) tbody tr:not(.inactive) { display: none }
-main:has(#open:checked):not(:has(tbody tr:not(.inactive))) .none,
-main:has(#mine:checked):not(:has(tr.mine:not(.inactive))) .none,
-main:has(#nobody:checked):not(:has(tr.nobody:not(.inactive))) .none,
-main:has(#late:checked):not(:has(tr.late)) .none,
-main:has(#closed:checked):not(:has(tr.inactive)) .none,
-main:has(#all:checked):not(:has(tbody tr)) .none { display: block }
+.list:not(:has(tbody tr)) + .none { display: block }
+.none + .paging { margin-top: .875rem }
 
 /* A request */
 
@@ -304,6 +307,8 @@ meter + meter::-moz-meter-bar { background: repeating-linear-gradient(135deg, va
   .list tbody tr.late { box-shadow: inset .25rem 0 var(--late) }
   .list tbody tr.late > :first-child { box-shadow: none }
   .list caption { display: block }
+  .fields { display: block }
+  .fields > :is(p, button) { margin-bottom: .5rem }
   .load td:last-child { width: 40% }
   .load :is(th, td), .queues :is(th, td) { padding-inline: .5rem }
 }
@@ -318,16 +323,17 @@ meter + meter::-moz-meter-bar { background: repeating-linear-gradient(135deg, va
   .facts form button { min-height: 2.25rem; min-width: 2.25rem }
   .more summary { padding-block: .625rem }
   input, select, textarea { font-size: 1rem }
-  nav a, .show label { padding-block: .5rem }
+  nav a { padding-block: .5rem }
+  .chips a, .paging a { padding-block: .375rem }
 }
 
 @media (forced-colors: active) {
-  .show label:has(:checked), nav a[aria-current] { border: 2px solid Highlight }
+  nav a[aria-current] { border: 2px solid Highlight }
 }
 
 @media print {
   :root { --page: #fff; --sheet: #fff; --ink: #000; --soft: #333; --line: #999; --link: #000; --fill: #000; --late: #000; --late-wash: #fff; --note: #fff; --note-ink: #000 }
-  nav, header form, .facts form, .skip, .show, .write, .change, .button, details, .queues td:last-child, .queues th:last-child { display: none }
+  nav, header form, .facts form, .skip, .pills, .paging a, .write, .change, .button, details, .queues td:last-child, .queues th:last-child { display: none }
   header { border-top: 0 }
   body { font-size: 10pt; display: block }
   main { padding: 0; max-width: none }

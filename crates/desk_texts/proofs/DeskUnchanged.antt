@@ -5,7 +5,7 @@ use Rattle.settings_core.specs.declared.settings.Settings.{Settings}
 use Rattle.desk_model.specs.Change.{applied}
 use Rattle.desk_model.specs.Commands.{plan_of}
 use Rattle.desk_model.specs.Desk.{Desk}
-use Rattle.desk_model.specs.Plan.{Call, Plan, Reads, answer_by, change_by, filed_or_done, seen_by}
+use Rattle.desk_model.specs.Plan.{Call, Plan, Reads, answer_by, change_by, filed_or_done, facts_of_plan}
 use Rattle.desk_model.specs.Step.{Outcome, Steps, call, desk_unless, guard, outcome_unless}
 use Rattle.desk_model.specs.declared.answer.Answer.{Answer}
 use Rattle.desk_model.specs.declared.command.Command.{Command}
@@ -26,11 +26,11 @@ long_is_not_short x filed long same =
 -- what a plan answers at length it tells of a desk that it leaves
 unchanged_by_plan : (c : Call) (o : Option Refusal) (plan : Plan) (old : Desk) (x : Answer)
     → is_short (Ok x) ≡ false → outcome_unless o (answer_by c old plan) ≡ Ok x
-    → desk_unless o old (applied (change_by c (seen_by plan old) plan) old) ≡ old
+    → desk_unless o old (applied (change_by c (facts_of_plan plan old) plan) old) ≡ old
 unchanged_by_plan c (Some refusal) plan old x long e = refl
 unchanged_by_plan c None (Reads topic told) old x long e = refl
 unchanged_by_plan c None plan old x long e =
-    absurd (long_is_not_short x (change_by c (seen_by plan old) plan).filed long e)
+    absurd (long_is_not_short x (change_by c (facts_of_plan plan old) plan).filed long e)
 
 -- what isn't told shortly is shown
 pub unchanged_if_long : (s : Settings) (at : ℕ) (caller : List ℕ) (command : Command)

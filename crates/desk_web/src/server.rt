@@ -113,7 +113,7 @@ fn tell_ending(rt: &HostRuntime, ended: Result<Ending, AllocError>, is_shut: boo
             )
         }
         Ok(Ending::Counted | Ending::Shut) => DONE,
-        Ok(Ending::Network | Ending::Spent) | Err(_) => refuse_network(rt),
+        Ok(Ending::Network | Ending::OutOfTurns) | Err(_) => refuse_network(rt),
     }
 }
 

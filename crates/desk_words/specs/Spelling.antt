@@ -8,7 +8,7 @@ use Rattle.clap.specs.declared.parser.matches.ArgMatches.{ArgMatches}
 use Rattle.desk_model.specs.declared.command.Command.{Command}
 use Rattle.desk_forms.specs.Number.{number_of}
 use Rattle.desk_words.specs.Line.{line}
-use Rattle.desk_forms.specs.Sheet.{Sheet}
+use Rattle.desk_forms.specs.ArgumentSource.{ArgumentSource}
 use Rattle.desk_forms.specs.Asked.{asked}
 use Rattle.desk_forms.specs.Table as table
 use Rattle.desk_forms.specs.Words.{row_in}
@@ -21,7 +21,7 @@ abbrev pub number_at : List Row → Text → Option ℕ
 number_at rows k = option_and_then number_of (first_of k rows)
 
 -- the same by the keys of arguments
-abbrev pub sheet_of : List Row → Sheet
+abbrev pub sheet_of : List Row → ArgumentSource
 sheet_of rows = record {
   id = number_at rows;
   queue = λ k. first_of k rows;

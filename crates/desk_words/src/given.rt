@@ -16,7 +16,7 @@ use crate::fault::WordsFault;
 use crate::line::needed_for;
 use clap::error::ErrorKind;
 use clap::{ArgMatches, Command as App};
-use desk_forms::asked::{Sheet, asked};
+use desk_forms::asked::{ArgumentSource, asked};
 use desk_forms::number_of_word;
 use desk_forms::words::row_of;
 use desk_model::Command;
@@ -50,7 +50,7 @@ fn command_in(
     ensures { IfOk result (λ c. c ≡ spelling.command_in (name.now, given_to given.now)) }
 {
     match row_of(name) {
-        Some(row) => asked(alloc, row.1, &Given(given)),
+        Some(row) => asked(alloc, row.1, &CommandLineArguments(given)),
         None => Ok(None),
     }
 }
@@ -128,9 +128,9 @@ fn number_at(matches: &ArgMatches<'_>, id: &str) -> Option<u32>
 
 /// What a subcommand was given.
 #[derive(Drop)]
-struct Given<'m, 'a>(&'m ArgMatches<'a>);
+struct CommandLineArguments<'m, 'a>(&'m ArgMatches<'a>);
 
-impl Sheet for Given<'_, '_> {
+impl ArgumentSource for CommandLineArguments<'_, '_> {
     ghost use Rattle.desk_words.specs.Spelling.{given_to, sheet_of};
 
     ghost sheet = { λ given. sheet_of (given_to given.0.now) };

@@ -1,7 +1,10 @@
 -- Examples of the definitions: words in texts, each condition at its limit and one past it, places
 -- and their order, pages at their limits, what queues have open, and what is told of rows.
-use Rattle.std.specs.Prelude.{◌≡◌, refl, ℕ, true, false, List, [], ◌∷◌, codes, Option, Some, None}
-use Rattle.std.specs.Prelude.{Ok, Err}
+use Rattle.std.specs.Prelude.{◌≡◌, refl, ℕ, Bool, true, false, List, [], ◌∷◌, codes, Option, Some, None}
+use Rattle.std.specs.Prelude.{Ok, Err, encode_utf8_all}
+use Rattle.std.specs.Char.{encode_utf8}
+use Rattle.std.specs.Str.{chars}
+use Rattle.caseless.proofs.Computing.{caseless}
 use Rattle.lifecycle_core.specs.declared.lifecycle.Class.TheVariants.{Initial, Active, Inactive as Ended}
 use Rattle.desk_model.specs.declared.refusal.Refusal.TheVariants.{UnknownCaller, BadMoment}
 use Rattle.desk_model.specs.declared.rows.Entry.{Entry}
@@ -31,25 +34,111 @@ use Rattle.find_core.specs.declared.search.Place.{Place}
 use Rattle.find_core.specs.declared.search.Search.{Search}
 use Rattle.find_core.specs.declared.search.StatusAsked.TheVariants.{Any, One, Open, Inactive}
 
+-- what is told of letters is worked out by Unicode's tables
+unfoldable by_hand : Unit {0}
+unfolding caseless chars encode_utf8
+by_hand = tt
+
 -- Words.antt
 
 word_within_a_word : stands_in (codes "int") (codes "Printer jam") ≡ true
+unfolding by_hand
 word_within_a_word = refl
 
 word_in_other_case : stands_in (codes "PRINTER") (codes "printer jam") ≡ true
+unfolding by_hand
 word_in_other_case = refl
 
 word_at_the_end : stands_in (codes "jam") (codes "Printer jam") ≡ true
+unfolding by_hand
 word_at_the_end = refl
 
 word_one_letter_longer : stands_in (codes "jams") (codes "Printer jam") ≡ false
+unfolding by_hand
 word_one_letter_longer = refl
 
--- U+00C4 and U+00E4: the case of letters of ASCII alone is passed over
-word_in_other_case_beyond_ascii : stands_in (195 ∷ 164 ∷ []) (195 ∷ 132 ∷ []) ≡ false
-word_in_other_case_beyond_ascii = refl
+-- of the letters of this word, the text has these
+abbrev finds : List ℕ → List ℕ → Bool
+finds word text = stands_in (encode_utf8_all word) (encode_utf8_all text)
+
+-- U+00FC and U+00DC
+umlauts : finds (codes "überspannung") (codes "Überspannung") ≡ true
+unfolding by_hand
+umlauts = refl
+
+-- a sharp s is folded to two letters
+sharp_s_is_found : finds (codes "STRASSE") (codes "Hauptstraße 1") ≡ true
+unfolding by_hand
+sharp_s_is_found = refl
+
+sharp_s_finds : finds (codes "straße") (codes "HAUPTSTRASSE 1") ≡ true
+unfolding by_hand
+sharp_s_finds = refl
+
+-- U+1E9E
+large_sharp_s : finds (codes "STRAẞE") (codes "straße") ≡ true
+unfolding by_hand
+large_sharp_s = refl
+
+-- and the word may end between them
+half_of_a_sharp_s : finds (codes "stras") (codes "Straße") ≡ true
+unfolding by_hand
+half_of_a_sharp_s = refl
+
+umlaut_is_no_other_letter : finds (codes "uber") (codes "über") ≡ false
+unfolding by_hand
+umlaut_is_no_other_letter = refl
+
+final_sigma : finds (codes "ΛΌΓΟΣ") (codes "λόγος") ≡ true
+unfolding by_hand
+final_sigma = refl
+
+final_sigma_is_a_sigma : finds (codes "λόγος") (codes "λόγοσ") ≡ true
+unfolding by_hand
+final_sigma_is_a_sigma = refl
+
+-- an accent that capitals lack is told as it is
+accent_left_out : finds (codes "ΛΟΓΟΣ") (codes "λόγος") ≡ false
+unfolding by_hand
+accent_left_out = refl
+
+cyrillic : finds (codes "ПРИНТЕР") (codes "Принтер сломан") ≡ true
+unfolding by_hand
+cyrillic = refl
+
+-- U+0130 is folded to an i and a dot above, U+0307, and U+0131 stays
+dotted_i : finds (codes "İSTANBUL") (105 ∷ 775 ∷ codes "stanbul") ≡ true
+unfolding by_hand
+dotted_i = refl
+
+dotted_i_is_no_plain_i : finds (codes "istanbul") (codes "İstanbul") ≡ false
+unfolding by_hand
+dotted_i_is_no_plain_i = refl
+
+dotless_i : finds (codes "ısparta") (codes "ISPARTA") ≡ false
+unfolding by_hand
+dotless_i = refl
+
+plain_i : finds (codes "isparta") (codes "ISPARTA") ≡ true
+unfolding by_hand
+plain_i = refl
+
+-- e and U+0301, which are told as two letters
+accent_of_its_own : finds (101 ∷ 769 ∷ []) (67 ∷ 65 ∷ 70 ∷ 69 ∷ 769 ∷ []) ≡ true
+unfolding by_hand
+accent_of_its_own = refl
+
+accent_within_the_letter : finds (233 ∷ []) (67 ∷ 65 ∷ 70 ∷ 69 ∷ 769 ∷ []) ≡ false
+unfolding by_hand
+accent_within_the_letter = refl
+
+-- the sign for kelvin is folded to a letter of ASCII
+kelvin : finds (codes "k") (8490 ∷ []) ≡ true
+unfolding by_hand
+kelvin = refl
 
 empty_word_stands_anywhere : stands_in [] [] ≡ true
+unfolding by_hand
 empty_word_stands_anywhere = refl
 
 text_begins_with_all_of_it : begins (codes "jam") (codes "jam") ≡ true
@@ -61,10 +150,12 @@ text_is_shorter_than_the_word = refl
 -- one stands in the subject, and one in a reply
 words_in_two_texts :
     has_words (codes "jam" ∷ codes "toner" ∷ []) (codes "Printer jam" ∷ codes "No toner" ∷ []) ≡ true
+unfolding by_hand
 words_in_two_texts = refl
 
 one_of_the_words_stands_nowhere :
     has_words (codes "jam" ∷ codes "toner" ∷ []) (codes "Printer jam" ∷ []) ≡ false
+unfolding by_hand
 one_of_the_words_stands_nowhere = refl
 
 no_words_stand_in_no_text : has_words [] [] ≡ true
@@ -193,10 +284,12 @@ replies_are_sought_too :
 replies_are_sought_too = refl
 
 word_of_a_reply_is_not_sought : is_asked 500 search (found 7 None 300) (codes "Toner" ∷ []) ≡ false
+unfolding by_hand
 word_of_a_reply_is_not_sought = refl
 
 word_of_a_reply_is_sought :
     is_asked 500 (record search { in_replies = true }) (found 7 None 300) (codes "Toner" ∷ []) ≡ true
+unfolding by_hand
 word_of_a_reply_is_sought = refl
 
 other_conditions_hold_as_well :
@@ -432,12 +525,14 @@ place_of_a_row_with_its_words :
     place_if (record search { in_replies = true; order = ByLast }) (dated (codes "general") None)
     history
     ≡ Some (place 300 7)
+unfolding by_hand
 place_of_a_row_with_its_words = refl
 
 no_place_without_its_words :
     place_if (record search { in_replies = true; order = ByLast }) (dated (codes "general") None)
     (told_with false (entry 250 kind.Comment (codes "No toner") ∷ []))
     ≡ None
+unfolding by_hand
 no_place_without_its_words = refl
 
 -- Loads.antt

@@ -1,5 +1,6 @@
 mod CountLemmas
 mod Examples
+mod LetterLemmas
 mod PageLemmas
 pub mod PlaceLemmas
 pub mod RisingLemmas

@@ -10,7 +10,8 @@ use text_core::{Sequence, Text, Texts};
 /// What is sought among the requests that a caller may show: those that meet all of it.
 #[derive(Drop)]
 pub struct Search {
-    /// Each of them stands in the subject, where a large letter of ASCII is as good as a small one.
+    /// Each of them stands in the subject, in large or small letters of any script: both are folded
+    /// as Unicode does by default.
     pub words: Texts,
     /// A word may also stand in the text of a reply or a comment that the caller may see.
     pub in_replies: bool,

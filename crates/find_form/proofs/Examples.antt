@@ -13,6 +13,7 @@ use Rattle.find_core.specs.declared.search.StatusAsked.TheVariants.{Any, One, Op
 use Rattle.find_form.specs.Address.{place_in, place_text}
 use Rattle.find_form.specs.Form.{form_in, form_of}
 use Rattle.find_form.specs.Own.{asked_by, owned_by, unowned}
+use Rattle.find_form.specs.Query.{is_other, others_of}
 use Rattle.find_form.specs.Shown.{found_page, is_back, place_of, shown}
 use Rattle.find_form.specs.Sought.{day_asked, descends, fault_of, first_of_day, order_asked}
 use Rattle.find_form.specs.Sought.{owner_asked, person_asked, search_of, sought, status_asked, words_in}
@@ -330,6 +331,31 @@ nobody's :
     ≡ sought (codes "ann") false
     (record blank { state = codes "open"; owner = codes "Nobody"; order = codes "due" })
 nobody's = refl
+
+-- Query.antt
+
+-- an address with words that are coded, an empty field and a field without a value
+abbrev address : List ℕ
+address = codes "words=paper%20jam&queue=general&state=open&owner=&late&order=due"
+
+fields_beside_the_owner :
+    others_of (codes "owner" ∷ []) address
+    ≡ codes "&words=paper%20jam&queue=general&state=open&order=due"
+fields_beside_the_owner = refl
+
+fields_beside_two :
+    others_of (codes "queue" ∷ codes "order" ∷ []) address
+    ≡ codes "&words=paper%20jam&state=open"
+fields_beside_two = refl
+
+no_fields : others_of (codes "owner" ∷ []) [] ≡ []
+no_fields = refl
+
+no_field_is_left : others_of (codes "owner" ∷ []) (codes "owner=bob") ≡ []
+no_field_is_left = refl
+
+name_that_begins_so : is_other (codes "to" ∷ []) (codes "token=1") ≡ true
+name_that_begins_so = refl
 
 -- Shown.antt
 

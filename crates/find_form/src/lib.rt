@@ -5,6 +5,7 @@
 //! - `search_of` is the search that they ask for, or the first fault of what was typed.
 //! - `found_page` is what a page shows, and where the pages before and after it begin.
 //! - `place_text` and `place_in` write and read a place in an address.
+//! - `others_of` are the fields of an address beside some that are changed.
 //! - `owned_by`, `asked_by` and `unowned` are the searches of the first page.
 #![tactic(auto)]
 
@@ -12,6 +13,7 @@ mod address;
 mod fault;
 mod form;
 mod own;
+mod query;
 mod shown;
 mod sought;
 mod words;
@@ -20,6 +22,7 @@ pub use address::{place_in, place_text};
 pub use fault::FindFault;
 pub use form::{FindForm, empty_form, form_of};
 pub use own::{asked_by, owned_by, unowned};
+pub use query::others_of;
 pub use shown::{FoundPage, PAGE_ROWS, Start, found_page};
 pub use sought::search_of;
 pub use words::words_in;

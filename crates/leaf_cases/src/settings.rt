@@ -11,6 +11,7 @@ mod sessions;
 use crate::questions;
 use case_text::{Answering, Case, CaseFault, answer_lines};
 use settings_core::{Settings, SettingsFault};
+use settings_places::reading::{PlacedFault, TomlFault, Unread, read_telling};
 use std::alloc::{AllocError, Global};
 
 /// The text that stands for the settings without one.
@@ -27,7 +28,7 @@ pub(crate) fn run_case(alloc: Global, out: &mut String, case: &Case<'_>) -> Resu
             drop(asked);
             answered
         }
-        Err(fault) => Ok(tell(out, fault)?),
+        Err(unread) => Ok(tell(alloc, out, &unread)?),
     }
 }
 
@@ -49,16 +50,42 @@ impl Answering for Asked<'_> {
     }
 }
 
-fn read(alloc: Global, text: &str) -> Result<Settings, SettingsFault> {
-    if text == BUILT_IN {
-        Settings::built_in(alloc)
-    } else {
-        Settings::read(alloc, text.as_bytes())
+fn read(alloc: Global, text: &str) -> Result<Settings, Unread> {
+    if text != BUILT_IN {
+        return read_telling(alloc, text.as_bytes());
+    }
+    match Settings::built_in(alloc) {
+        Ok(settings) => Ok(settings),
+        Err(_) => Err(Unread::NoMemory),
+    }
+}
+
+/// Adds why a text states no settings: its fault, and where that stands.
+fn tell(alloc: Global, out: &mut String, unread: &Unread) -> Result<(), AllocError> {
+    match unread {
+        Unread::NotToml(fault) => tell_line(out, *fault),
+        Unread::Fault(fault) => tell_place(alloc, out, fault),
+        Unread::NoMemory => Err(AllocError),
+    }
+}
+
+fn tell_line(out: &mut String, fault: TomlFault) -> Result<(), AllocError> {
+    tell_fault(out, SettingsFault::NotToml)?;
+    let line = fault.at.line;
+    let column = fault.at.column;
+    writeln!(out, "line {line}, column {column}")
+}
+
+fn tell_place(alloc: Global, out: &mut String, placed: &PlacedFault) -> Result<(), AllocError> {
+    tell_fault(out, placed.fault)?;
+    match placed.place(alloc)? {
+        Some(place) => writeln!(out, "{place}"),
+        None => writeln!(out, "no place"),
     }
 }
 
 /// Adds a fault as scripts tell it.
-fn tell(out: &mut String, fault: SettingsFault) -> Result<(), AllocError> {
+fn tell_fault(out: &mut String, fault: SettingsFault) -> Result<(), AllocError> {
     let number = fault.number();
     let name = fault.name();
     match fault.inner() {

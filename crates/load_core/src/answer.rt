@@ -44,7 +44,7 @@ fn is_shown(all: bool, text: &[u8]) -> bool
 }
 
 /// Whether an answer is `ok`, or the number of a new request.
-fn is_done(text: &[u8]) -> bool
+pub(crate) fn is_done(text: &[u8]) -> bool
     ensures { result ≡ is_done text.now }
 {
     text == b"ok\n".as_slice() || text.starts_with(b"request ")

@@ -7,7 +7,7 @@ ghost use Rattle.desk_program.specs.Script.{LineLeads};
 ghost use Rattle.load_core.specs.Load.{AnswersLine, IsLoaded, IsNone, IsPassed, IsPassedBy, Runs};
 ghost use Rattle.load_core.specs.Load.{Tells, ending_after, held_by, place_at, said_by};
 
-use crate::answer::{is_refused, put_answer};
+use crate::answer::{is_done, is_refused, put_answer};
 use crate::line::answer_bytes;
 use line_core::{LINE_LIMIT, Taken, take_line};
 use service_core::Desk;
@@ -59,8 +59,8 @@ pub struct Loaded {
 
 /// Who is told of each line.
 pub trait Progress {
-    /// The line of this number was answered.
-    fn told(&mut self, line: u64);
+    /// The line of this number was answered, and whether by `ok` or the number of a new request.
+    fn told(&mut self, line: u64, is_done: bool);
 }
 
 /// Answers the lines of a reader, but for those that are passed over, each before the next one is
@@ -173,7 +173,9 @@ fn answer_lines<S: Backend, R: Read, W: Write, P: Progress>(
     let mut refused = false;
     for count in 0..u64::MAX - plan.passed {
         let number = plan.passed + count + 1;
-        match answer_next(alloc, desk, reader, line, output, plan.all, number, refused) {
+        match answer_next(
+            alloc, desk, reader, line, output, progress, plan.all, number, refused,
+        ) {
             Ok(now) => refused = now,
             Err(ending) => {
                 return Loaded {
@@ -183,7 +185,6 @@ fn answer_lines<S: Backend, R: Read, W: Write, P: Progress>(
                 };
             }
         }
-        progress.told(number);
         if let Some(ending) = ending_after(output, plan.stop, refused) {
             return Loaded {
                 answered: count + 1,
@@ -219,12 +220,13 @@ fn ending_after<W: Write>(
 
 /// Takes the next line and answers it: whether one was refused so far. Else why there is none.
 #[tactic(auto, using(service_core::proofs::LeftLemmas::left_same))]
-fn answer_next<S: Backend, R: Read, W: Write>(
+fn answer_next<S: Backend, R: Read, W: Write, P: Progress>(
     alloc: Global,
     desk: &mut Desk<S>,
     reader: &mut R,
     line: &mut Vec<u8>,
     output: &mut CountedWriter<'_, W>,
+    progress: &mut P,
     all: bool,
     number: u64,
     refused: bool,
@@ -241,18 +243,28 @@ fn answer_next<S: Backend, R: Read, W: Write>(
     ensures left { LeavesDesk S.Store desk.old desk.new }
 {
     match take_line(reader, line) {
-        Taken::Line => Ok(answer_text(alloc, desk, output, all, number, line.as_slice(), refused)),
-        Taken::TooLong => Ok(tell(output, all, number, BAD_WORDS, refused)),
+        Taken::Line => Ok(answer_text(
+            alloc,
+            desk,
+            output,
+            progress,
+            all,
+            number,
+            line.as_slice(),
+            refused,
+        )),
+        Taken::TooLong => Ok(tell(output, progress, all, number, BAD_WORDS, refused)),
         Taken::End => Err(Ending::Input),
         Taken::Fault => Err(Ending::Read),
     }
 }
 
 /// Answers a text, and tells its answer: whether one was refused so far.
-fn answer_text<S: Backend, W: Write>(
+fn answer_text<S: Backend, W: Write, P: Progress>(
     alloc: Global,
     desk: &mut Desk<S>,
     output: &mut CountedWriter<'_, W>,
+    progress: &mut P,
     all: bool,
     number: u64,
     bytes: &[u8],
@@ -265,14 +277,15 @@ fn answer_text<S: Backend, W: Write>(
     ensures left { LeavesDesk S.Store desk.old desk.new }
 {
     match answer_bytes(alloc, desk, bytes) {
-        Ok(text) => tell(output, all, number, text.as_slice(), refused),
-        Err(_) => tell(output, all, number, UNAVAILABLE, refused),
+        Ok(text) => tell(output, progress, all, number, text.as_slice(), refused),
+        Err(_) => tell(output, progress, all, number, UNAVAILABLE, refused),
     }
 }
 
 /// Prints the answer to a line, if it is to be shown: whether one was refused so far.
-fn tell<W: Write>(
+fn tell<W: Write, P: Progress>(
     output: &mut CountedWriter<'_, W>,
+    progress: &mut P,
     all: bool,
     number: u64,
     text: &[u8],
@@ -282,5 +295,6 @@ fn tell<W: Write>(
     ensures same_writer { HaveOneWriter output.new output.old }
 {
     put_answer(output, all, number, text);
+    progress.told(number, is_done(text));
     refused || is_refused(text)
 }

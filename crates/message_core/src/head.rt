@@ -29,7 +29,7 @@ const LINES_READ: usize = 64;
 
 /// Which bytes stand at the front of a stream. Empty lines may stand before a head.
 #[derive(Clone, Copy)]
-enum Front {
+enum HeadSoFar {
     /// Empty lines alone, or nothing.
     Empty,
     /// Empty lines, and a carriage return after them.
@@ -38,33 +38,33 @@ enum Front {
     Begun,
 }
 
-impl Front {
+impl HeadSoFar {
     /// The front with a byte more.
-    fn with(self, byte: u8) -> Front
-        ensures { result ≢ Front.Begun → (self ≢ Front.Begun) × (is_line_end byte ≡ true) }
+    fn with(self, byte: u8) -> HeadSoFar
+        ensures { result ≢ HeadSoFar.Begun → (self ≢ HeadSoFar.Begun) × (is_line_end byte ≡ true) }
     {
         match self {
-            Front::Empty => {
+            HeadSoFar::Empty => {
                 match byte {
-                    b'\n' => Front::Empty,
-                    b'\r' => Front::Returned,
-                    _ => Front::Begun,
+                    b'\n' => HeadSoFar::Empty,
+                    b'\r' => HeadSoFar::Returned,
+                    _ => HeadSoFar::Begun,
                 }
             }
-            Front::Returned => {
+            HeadSoFar::Returned => {
                 match byte {
-                    b'\n' => Front::Empty,
-                    _ => Front::Begun,
+                    b'\n' => HeadSoFar::Empty,
+                    _ => HeadSoFar::Begun,
                 }
             }
-            Front::Begun => Front::Begun,
+            HeadSoFar::Begun => HeadSoFar::Begun,
         }
     }
 }
 
 /// How bytes at the front of a stream stand to a head of at most 32 header lines.
 #[derive(Clone, Copy)]
-enum Standing {
+enum HeadStatus {
     /// They begin with one.
     Whole,
     /// They don't, and more may follow.
@@ -76,39 +76,39 @@ enum Standing {
 }
 
 /// How the bytes stand to a head.
-fn standing_of(bytes: &[u8]) -> Standing
-    ensures whole { result ≡ Standing.Whole → HasLimitedHead bytes.now }
-    ensures unfinished { result ≡ Standing.Unfinished → HasNoRequest bytes.now }
-    ensures refused { result ≡ Standing.Refused → RequestOverflows 32 bytes.now }
-    ensures crowded { result ≡ Standing.Crowded → RequestOverflows 32 bytes.now }
+fn head_status(bytes: &[u8]) -> HeadStatus
+    ensures whole { result ≡ HeadStatus.Whole → HasLimitedHead bytes.now }
+    ensures unfinished { result ≡ HeadStatus.Unfinished → HasNoRequest bytes.now }
+    ensures refused { result ≡ HeadStatus.Refused → RequestOverflows 32 bytes.now }
+    ensures crowded { result ≡ HeadStatus.Crowded → RequestOverflows 32 bytes.now }
 {
     let mut lines = [EMPTY_HEADER_SPAN; LINES_READ];
     match parse_request(bytes, &mut lines) {
         Ok(Status::Complete(spans)) => {
             if spans.headers <= MAX_LINES {
-                Standing::Whole
+                HeadStatus::Whole
             } else {
-                Standing::Refused
+                HeadStatus::Refused
             }
         }
-        Ok(Status::Partial) => Standing::Unfinished,
-        Err(Error::TooManyHeaders) => Standing::Crowded,
-        Err(_) => Standing::Refused,
+        Ok(Status::Partial) => HeadStatus::Unfinished,
+        Err(Error::TooManyHeaders) => HeadStatus::Crowded,
+        Err(_) => HeadStatus::Refused,
     }
 }
 
 /// The same of the bytes of this front. Empty lines alone aren't read again.
 #[tactic(auto, using(crate::proofs::HeadLemmas::no_head_in_ends))]
-fn standing_after(front: Front, bytes: &[u8]) -> Standing
-    requires { front ≢ Front.Begun → are_line_ends bytes.now ≡ true }
-    ensures whole { result ≡ Standing.Whole → HasLimitedHead bytes.now }
-    ensures unfinished { result ≡ Standing.Unfinished → HasNoRequest bytes.now }
-    ensures refused { result ≡ Standing.Refused → RequestOverflows 32 bytes.now }
-    ensures crowded { result ≡ Standing.Crowded → RequestOverflows 32 bytes.now }
+fn standing_after(front: HeadSoFar, bytes: &[u8]) -> HeadStatus
+    requires { front ≢ HeadSoFar.Begun → are_line_ends bytes.now ≡ true }
+    ensures whole { result ≡ HeadStatus.Whole → HasLimitedHead bytes.now }
+    ensures unfinished { result ≡ HeadStatus.Unfinished → HasNoRequest bytes.now }
+    ensures refused { result ≡ HeadStatus.Refused → RequestOverflows 32 bytes.now }
+    ensures crowded { result ≡ HeadStatus.Crowded → RequestOverflows 32 bytes.now }
 {
     match front {
-        Front::Empty => Standing::Unfinished,
-        Front::Returned | Front::Begun => standing_of(bytes),
+        HeadSoFar::Empty => HeadStatus::Unfinished,
+        HeadSoFar::Returned | HeadSoFar::Begun => head_status(bytes),
     }
 }
 
@@ -157,7 +157,7 @@ pub(crate) fn take_head<R: Read>(
     ensures reads { reads_of reader.new ≤ reads_of reader.old + 8192 }
 {
     let mut taken = Vec::new(alloc);
-    let mut front = Front::Empty;
+    let mut front = HeadSoFar::Empty;
     let mut crowded = false;
     for _turn in 0..MAX_HEAD {
         let Some(byte) = next_byte(reader)? else {
@@ -167,10 +167,10 @@ pub(crate) fn take_head<R: Read>(
         front = front.with(byte);
         if byte == b'\n' && !crowded {
             match standing_after(front, taken.as_slice()) {
-                Standing::Whole => return Ok(taken),
-                Standing::Unfinished => {}
-                Standing::Refused => return Err(WireFault::BadHead),
-                Standing::Crowded => crowded = true,
+                HeadStatus::Whole => return Ok(taken),
+                HeadStatus::Unfinished => {}
+                HeadStatus::Refused => return Err(WireFault::BadHead),
+                HeadStatus::Crowded => crowded = true,
             }
         }
     }

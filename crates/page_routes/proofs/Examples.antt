@@ -3,25 +3,25 @@
 use Rattle.std.specs.Prelude.{◌≡◌, refl, ℕ, true, false, List, [], ◌∷◌, codes, Some, None, Ok, Err}
 use Rattle.std.specs.Fmt.{digits}
 use Rattle.browser_core.specs.declared.form.Field.{Field}
-use Rattle.desk_forms.specs.declared.paths.Method.TheVariants.{Get, Post}
+use Rattle.desk_forms.specs.declared.paths.Method.TheVariants.{Get}
 use Rattle.desk_forms.specs.declared.table.Form.TheVariants as forms
 use Rattle.desk_model.specs.declared.command.Command.TheVariants as command
 use Rattle.find_core.specs.declared.search.Place as find
 use Rattle.find_form.specs.declared.shown.Start.TheVariants.{First, After, Before}
 use Rattle.session_core.specs.declared.session.Lasts.TheVariants.{Day, Month}
 use Rattle.page_routes.specs.Faults.{name_of, number_of, status_of}
-use Rattle.page_routes.specs.Filled.{filled, names_in, needed, others}
+use Rattle.page_routes.specs.FormArguments.{filled, names_in, needed, others}
 use Rattle.page_routes.specs.Paths.{path_of, reply_path}
 use Rattle.page_routes.specs.Places.{act_named, behind, fixed, is_page_path, method_named, path_in}
 use Rattle.page_routes.specs.Places.{queue_page, takes_post}
 use Rattle.page_routes.specs.Visits.{acted, asked_at, asked_by, form_of, going, page_or_home, sent_on}
-use Rattle.page_routes.specs.Visits.{is_search, lasts_of, signed_by}
+use Rattle.page_routes.specs.Visits.{is_search, lasts_of, sent_in, signed_by}
 use Rattle.page_routes.specs.declared.fault.PageFault.TheVariants.{NoRoute, BadMethod, OtherSite}
 use Rattle.page_routes.specs.declared.fault.PageFault.TheVariants.{BadBody}
 use Rattle.page_routes.specs.declared.page.Page.TheVariants as pages
 use Rattle.page_routes.specs.declared.place.Place.TheVariants as places
-use Rattle.page_routes.specs.declared.visit.Sent.TheVariants as sends
-use Rattle.page_routes.specs.declared.visit.Visit.TheVariants as visits
+use Rattle.page_routes.specs.declared.visit.SubmittedForm.TheVariants as sends
+use Rattle.page_routes.specs.declared.visit.PageRequest.TheVariants as visits
 
 -- Faults.antt
 
@@ -152,7 +152,7 @@ path_of_the_end_of_a_history : reply_path 7 ≡ codes "/desk/requests/7#reply"
 unfolding digits
 path_of_the_end_of_a_history = refl
 
--- Filled.antt
+-- FormArguments.antt
 
 form_of_a_link : needed forms.Link ≡ codes "kind" ∷ codes "other" ∷ []
 form_of_a_link = refl
@@ -225,6 +225,12 @@ reply_without_one :
     sent_on forms.Reply 7 (field (codes "text") (codes "Hi") ∷ field (codes "status") [] ∷ [])
     ≡ sends.Reply 7 (codes "Hi") None
 reply_without_one = refl
+
+new_request_with_a_status :
+    sent_in (codes "it")
+    (field (codes "subject") (codes "Ink") ∷ field (codes "status") (codes "open") ∷ [])
+    ≡ sends.New (codes "it") (codes "Ink") [] [] (Some (codes "open"))
+new_request_with_a_status = refl
 
 other_acts_send_a_change : sent_on forms.Take 7 [] ≡ sends.Change 7
 other_acts_send_a_change = refl

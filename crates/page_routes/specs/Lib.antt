@@ -1,5 +1,5 @@
 pub mod Faults
-pub mod Filled
+pub mod FormArguments
 pub mod Paths
 pub mod Places
 pub mod Visits

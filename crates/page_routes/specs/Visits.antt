@@ -21,7 +21,7 @@ use Rattle.desk_forms.specs.declared.paths.Method.{Method}
 use Rattle.desk_forms.specs.declared.paths.Method.TheVariants.{Get, Post}
 use Rattle.desk_forms.specs.declared.table.Form.{Form}
 use Rattle.desk_forms.specs.declared.table.Form.TheVariants as forms
-use Rattle.page_routes.specs.Filled.{command_in, filled}
+use Rattle.page_routes.specs.FormArguments.{command_in, filled}
 use Rattle.page_routes.specs.Places.{method_named, place_at, takes_post}
 use Rattle.page_routes.specs.declared.fault.PageFault.{PageFault}
 use Rattle.page_routes.specs.declared.fault.PageFault.TheVariants.{NoRoute, BadMethod, OtherSite}
@@ -30,17 +30,17 @@ use Rattle.page_routes.specs.declared.page.Page.{Page}
 use Rattle.page_routes.specs.declared.page.Page.TheVariants as pages
 use Rattle.page_routes.specs.declared.place.Place.{Place}
 use Rattle.page_routes.specs.declared.place.Place.TheVariants as places
-use Rattle.page_routes.specs.declared.visit.Sent.{Sent}
-use Rattle.page_routes.specs.declared.visit.Sent.TheVariants as sends
-use Rattle.page_routes.specs.declared.visit.Visit.{Visit}
-use Rattle.page_routes.specs.declared.visit.Visit.TheVariants as visits
+use Rattle.page_routes.specs.declared.visit.SubmittedForm.{SubmittedForm}
+use Rattle.page_routes.specs.declared.visit.SubmittedForm.TheVariants as sends
+use Rattle.page_routes.specs.declared.visit.PageRequest.{PageRequest}
+use Rattle.page_routes.specs.declared.visit.PageRequest.TheVariants as visits
 
 -- the values of a message's header lines, by their names
 abbrev pub Lines : Type 0
 Lines = List ℕ → List (List ℕ)
 
 abbrev pub Answer : Type 0
-Answer = Result Visit PageFault
+Answer = Result PageRequest PageFault
 
 -- ---- who asks
 
@@ -70,12 +70,12 @@ abbrev pub looker : Settings → ℕ → Lines → Page → Option (List ℕ)
 looker settings at lines page =
     if is_search page then searcher settings at lines else caller_of settings at lines
 
-abbrev pub looked : Page → Option (List ℕ) → Visit
+abbrev pub looked : Page → Option (List ℕ) → PageRequest
 looked page None = visits.Unknown page true
 looked page (Some caller) = visits.Look caller page
 
 -- a place that only takes POST leads to where its form stands
-abbrev pub got : Settings → ℕ → Lines → Place → Visit
+abbrev pub got : Settings → ℕ → Lines → Place → PageRequest
 got settings at lines places.Style = visits.Style
 got settings at lines places.SignIn = visits.SignIn
 got settings at lines (places.Page page) = looked page (looker settings at lines page)
@@ -104,17 +104,17 @@ abbrev pub cookie_by : Settings → ℕ → Bool → Option (List ℕ) → Optio
 cookie_by settings at keep None = None
 cookie_by settings at keep (Some token) = sessions.signed_in settings token at (lasts_of keep)
 
-abbrev pub signed_by : Option (List ℕ) → Bool → Page → Visit
+abbrev pub signed_by : Option (List ℕ) → Bool → Page → PageRequest
 signed_by None keep next = visits.NotSignedIn next
 signed_by (Some cookie) keep next = visits.SignedIn cookie keep next
 
-abbrev pub signed_at : Settings → ℕ → List Field → Visit
+abbrev pub signed_at : Settings → ℕ → List Field → PageRequest
 signed_at settings at fields =
     signed_by (cookie_by settings at (has fields (codes "keep")) (token_in fields))
     (has fields (codes "keep")) (next_in fields)
 
 -- only at a moment of the desk
-abbrev pub signed : Settings → ℕ → List Field → Visit
+abbrev pub signed : Settings → ℕ → List Field → PageRequest
 signed settings at fields =
     if is_due_moment at then signed_at settings at fields else visits.NoMoment
 
@@ -139,18 +139,18 @@ going fields =
 abbrev pub typed : List ℕ → List Field → List ℕ
 typed name fields = unwrap_or (value_of name fields) []
 
-abbrev pub sent_on : Form → ℕ → List Field → Sent
+abbrev pub sent_on : Form → ℕ → List Field → SubmittedForm
 sent_on forms.Reply id fields =
     sends.Reply id (typed (codes "text") fields) (filled (value_of (codes "status") fields))
 sent_on forms.Comment id fields = sends.Comment id (typed (codes "text") fields)
 sent_on _ id fields = sends.Change id
 
-abbrev pub sent_in : List ℕ → List Field → Sent
+abbrev pub sent_in : List ℕ → List Field → SubmittedForm
 sent_in queue fields =
     sends.New queue (typed (codes "subject") fields) (typed (codes "requestors") fields)
-    (typed (codes "text") fields)
+    (typed (codes "text") fields) (filled (value_of (codes "status") fields))
 
-abbrev pub acted : List ℕ → Sent → Option Command → Answer
+abbrev pub acted : List ℕ → SubmittedForm → Option Command → Answer
 acted caller sent None = Err BadBody
 acted caller sent (Some command) = Ok (visits.Act caller command sent)
 

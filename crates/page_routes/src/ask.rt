@@ -1,16 +1,17 @@
 //! What a caller's form asks.
 
-ghost use Rattle.std.specs.Prelude.{◌≡◌, ◌≢◌, Ok, Err, IfErr, IfOk};
+ghost use Rattle.std.specs.Prelude.{◌≡◌, ◌≢◌, Ok, Err, IfErr, IfOk, codes};
 ghost use Rattle.browser_core.specs.Form as form;
+ghost use Rattle.page_routes.specs.FormArguments.{filled};
 ghost use Rattle.page_routes.specs.Visits as visits;
 
 use crate::fault::PageFault;
 use crate::filled::{command_in, filled_value, number_at, typed};
 use crate::page::Page;
 use crate::place::Place;
-use crate::visit::{Sent, Visit};
+use crate::visit::{PageRequest, SubmittedForm};
 use browser_core::{Field, fields_of, has_fields};
-use desk_forms::paths::Bound;
+use desk_forms::paths::PathParameter;
 use desk_forms::table::Form;
 use desk_model::Command;
 use std::alloc::{AllocError, Global};
@@ -22,14 +23,14 @@ pub(crate) fn asked_by(
     place: Place,
     caller: Option<Text>,
     body: &[u8],
-) -> Result<Visit, PageFault>
+) -> Result<PageRequest, PageFault>
     ensures ok { IfOk result (λ visit.
         visits.asked_by place caller (form.fields_of body.now) ≡ Ok visit) }
     ensures err { IfErr result (λ fault. fault ≢ PageFault.NoMemory
         → visits.asked_by place caller (form.fields_of body.now) ≡ Err fault) }
 {
     let Some(caller) = caller else {
-        return Ok(Visit::Unknown {
+        return Ok(PageRequest::Unknown {
             next: form_of(place),
             to_get: false,
         });
@@ -51,7 +52,12 @@ fn form_of(place: Place) -> Page
     }
 }
 
-fn asked_at(alloc: Global, caller: Text, place: Place, fields: &[Field]) -> Result<Visit, PageFault>
+fn asked_at(
+    alloc: Global,
+    caller: Text,
+    place: Place,
+    fields: &[Field],
+) -> Result<PageRequest, PageFault>
     ensures ok { IfOk result (λ visit. visits.asked_at caller place fields.now ≡ Ok visit) }
     ensures err { IfErr result (λ fault. fault ≢ PageFault.NoMemory
         → visits.asked_at caller place fields.now ≡ Err fault) }
@@ -59,15 +65,20 @@ fn asked_at(alloc: Global, caller: Text, place: Place, fields: &[Field]) -> Resu
     match place {
         Place::Go => going(fields),
         Place::Queues => {
-            let command = command_in(alloc, Form::OpenQueue, Bound::Nothing, fields)?;
-            acted(caller, Sent::Queue, command)
+            let command = command_in(alloc, Form::OpenQueue, PathParameter::Nothing, fields)?;
+            acted(caller, SubmittedForm::Queue, command)
         }
         Place::Act(act, id) => {
-            let command = command_in(alloc, act, Bound::Request(id), fields)?;
+            let command = command_in(alloc, act, PathParameter::Request(id), fields)?;
             acted(caller, sent_on(alloc, act, id, fields)?, command)
         }
         Place::Page(Page::New(queue)) => {
-            let command = command_in(alloc, Form::Create, Bound::Queue(queue.as_str()), fields)?;
+            let command = command_in(
+                alloc,
+                Form::Create,
+                PathParameter::Queue(queue.as_str()),
+                fields,
+            )?;
             acted(caller, sent_in(alloc, queue, fields)?, command)
         }
         _ => Err(PageFault::BadMethod { posts: false }),
@@ -75,23 +86,27 @@ fn asked_at(alloc: Global, caller: Text, place: Place, fields: &[Field]) -> Resu
 }
 
 /// To go to the number of a field.
-fn going(fields: &[Field]) -> Result<Visit, PageFault>
+fn going(fields: &[Field]) -> Result<PageRequest, PageFault>
     ensures { result ≡ visits.going fields.now }
 {
     if !has_fields(fields, &["number"], &[]) {
         return Err(PageFault::BadBody);
     }
     match number_at(fields, "number") {
-        Some(id) => Ok(Visit::Go { id }),
+        Some(id) => Ok(PageRequest::Go { id }),
         None => Err(PageFault::BadBody),
     }
 }
 
-fn acted(caller: Text, sent: Sent, command: Option<Command>) -> Result<Visit, PageFault>
+fn acted(
+    caller: Text,
+    sent: SubmittedForm,
+    command: Option<Command>,
+) -> Result<PageRequest, PageFault>
     ensures { result ≡ visits.acted caller sent command }
 {
     match command {
-        Some(command) => Ok(Visit::Act {
+        Some(command) => Ok(PageRequest::Act {
             caller,
             command,
             sent,
@@ -101,42 +116,52 @@ fn acted(caller: Text, sent: Sent, command: Option<Command>) -> Result<Visit, Pa
 }
 
 /// What was sent with a form on a request.
-fn sent_on(alloc: Global, act: Form, id: u32, fields: &[Field]) -> Result<Sent, AllocError>
+fn sent_on(alloc: Global, act: Form, id: u32, fields: &[Field]) -> Result<SubmittedForm, AllocError>
     ensures { IfOk result (λ sent. sent ≡ visits.sent_on act id fields.now) }
 {
     match act {
         Form::Reply => replied(alloc, id, fields),
-        Form::Comment => Ok(Sent::Comment {
+        Form::Comment => Ok(SubmittedForm::Comment {
             id,
             text: Text::new(alloc, typed(fields, "text"))?,
         }),
-        _ => Ok(Sent::Change { id }),
+        _ => Ok(SubmittedForm::Change { id }),
     }
 }
 
 /// What was sent with the form for a reply.
-fn replied(alloc: Global, id: u32, fields: &[Field]) -> Result<Sent, AllocError>
+fn replied(alloc: Global, id: u32, fields: &[Field]) -> Result<SubmittedForm, AllocError>
     ensures { IfOk result (λ sent. sent ≡ visits.sent_on Form.Reply id fields.now) }
 {
     let text = Text::new(alloc, typed(fields, "text"))?;
-    let status = match filled_value(fields, "status") {
-        Some(status) => Some(Text::new(alloc, status)?),
-        None => None,
-    };
-    Ok(Sent::Reply { id, text, status })
+    let status = chosen_status(alloc, fields)?;
+    Ok(SubmittedForm::Reply { id, text, status })
+}
+
+/// The status that was chosen, where one was.
+fn chosen_status(alloc: Global, fields: &[Field]) -> Result<Option<Text>, AllocError>
+    ensures { IfOk result (λ status.
+        status ≡ filled (form.value_of (codes "status") fields.now)) }
+{
+    match filled_value(fields, "status") {
+        Some(status) => Ok(Some(Text::new(alloc, status)?)),
+        None => Ok(None),
+    }
 }
 
 /// What was sent with the form for a new request.
-fn sent_in(alloc: Global, queue: Text, fields: &[Field]) -> Result<Sent, AllocError>
+fn sent_in(alloc: Global, queue: Text, fields: &[Field]) -> Result<SubmittedForm, AllocError>
     ensures { IfOk result (λ sent. sent ≡ visits.sent_in queue fields.now) }
 {
     let subject = Text::new(alloc, typed(fields, "subject"))?;
     let requestors = Text::new(alloc, typed(fields, "requestors"))?;
     let text = Text::new(alloc, typed(fields, "text"))?;
-    Ok(Sent::New {
+    let status = chosen_status(alloc, fields)?;
+    Ok(SubmittedForm::New {
         queue,
         subject,
         requestors,
         text,
+        status,
     })
 }

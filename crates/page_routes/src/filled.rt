@@ -5,12 +5,12 @@ ghost use Rattle.std.specs.Option.{option_and_then, option_map};
 ghost use Rattle.browser_core.specs.Form.{value_of as value_in};
 ghost use Rattle.desk_forms.specs.Number as number;
 ghost use Rattle.desk_forms.specs.Paths.{bound_of};
-ghost use Rattle.page_routes.specs.Filled as filled;
+ghost use Rattle.page_routes.specs.FormArguments as filled;
 
 use browser_core::{Field, has_fields, value_of};
-use desk_forms::asked::{Sheet, asked};
+use desk_forms::asked::{ArgumentSource, asked};
 use desk_forms::number_of_word;
-use desk_forms::paths::Bound;
+use desk_forms::paths::PathParameter;
 use desk_forms::table::Form;
 use desk_model::Command;
 use std::alloc::{AllocError, Global};
@@ -92,27 +92,27 @@ fn names_in(alloc: Global, text: &str) -> Result<Texts, AllocError>
 
 /// What the path of a message names, and the fields of its body.
 #[derive(Drop)]
-struct Filled<'f> {
-    bound: Bound<'f>,
+struct FormArguments<'f> {
+    bound: PathParameter<'f>,
     fields: &'f [Field],
 }
 
-impl Sheet for Filled<'_> {
+impl ArgumentSource for FormArguments<'_> {
     ghost use Rattle.desk_forms.specs.Paths.{bound_of};
-    ghost use Rattle.page_routes.specs.Filled.{sheet_of};
+    ghost use Rattle.page_routes.specs.FormArguments.{sheet_of};
 
     ghost sheet = { λ s. sheet_of (bound_of s.bound) s.fields.now };
 
     fn id(&self, _key: &str) -> Option<u32> {
         match self.bound {
-            Bound::Request(id) => Some(id),
+            PathParameter::Request(id) => Some(id),
             _ => None,
         }
     }
 
     fn queue(&self, key: &str) -> Option<&str> {
         match self.bound {
-            Bound::Queue(queue) => Some(queue),
+            PathParameter::Queue(queue) => Some(queue),
             _ => value_of(self.fields, key),
         }
     }
@@ -142,7 +142,7 @@ impl Sheet for Filled<'_> {
 pub(crate) fn command_in(
     alloc: Global,
     of: Form,
-    bound: Bound<'_>,
+    bound: PathParameter<'_>,
     fields: &[Field],
 ) -> Result<Option<Command>, AllocError>
     ensures { IfOk result (λ c.
@@ -151,5 +151,5 @@ pub(crate) fn command_in(
     if !has_fields(fields, needed(of), others(of)) {
         return Ok(None);
     }
-    asked(alloc, of, &Filled { bound, fields })
+    asked(alloc, of, &FormArguments { bound, fields })
 }

@@ -19,4 +19,4 @@ pub use fault::PageFault;
 pub use lines::caller_of;
 pub use page::{Page, page_path};
 pub use place::is_page_place;
-pub use visit::{Sent, Visit, visit_of};
+pub use visit::{PageRequest, SubmittedForm, visit_of};

@@ -9,7 +9,7 @@ use crate::fault::PageFault;
 use crate::filled::typed;
 use crate::page::Page;
 use crate::place::{Place, place_at};
-use crate::visit::Visit;
+use crate::visit::PageRequest;
 use browser_core::{Field, fields_of, has, has_fields, text_in, trimmed};
 use hours_core::Minute;
 use session_core::{Lasts, signed_in};
@@ -23,7 +23,7 @@ pub(crate) fn signing(
     settings: &Settings,
     at: u32,
     body: &[u8],
-) -> Result<Visit, PageFault>
+) -> Result<PageRequest, PageFault>
     ensures ok { IfOk result (λ visit.
         visits.signing settings.now at (form.fields_of body.now) ≡ Ok visit) }
     ensures err { IfErr result (λ fault. fault ≢ PageFault.NoMemory
@@ -44,12 +44,12 @@ fn signed(
     settings: &Settings,
     at: u32,
     fields: &[Field],
-) -> Result<Visit, AllocError>
+) -> Result<PageRequest, AllocError>
     ensures { IfOk result (λ visit. visit ≡ visits.signed settings.now at fields.now) }
 {
     match Minute::new(at) {
         Some(moment) => signed_at(alloc, settings, moment, fields),
-        None => Ok(Visit::NoMoment),
+        None => Ok(PageRequest::NoMoment),
     }
 }
 
@@ -59,15 +59,15 @@ fn signed_at(
     settings: &Settings,
     moment: Minute,
     fields: &[Field],
-) -> Result<Visit, AllocError>
+) -> Result<PageRequest, AllocError>
     ensures { IfOk result (λ visit. visit ≡ visits.signed_at settings.now moment fields.now) }
 {
     let keep = has(fields, "keep");
     let cookie = cookie_by(alloc, settings, moment, keep, token_in(fields))?;
     let next = next_in(alloc, fields)?;
     match cookie {
-        Some(cookie) => Ok(Visit::SignedIn { cookie, keep, next }),
-        None => Ok(Visit::NotSignedIn { next }),
+        Some(cookie) => Ok(PageRequest::SignedIn { cookie, keep, next }),
+        None => Ok(PageRequest::NotSignedIn { next }),
     }
 }
 

@@ -21,7 +21,7 @@ use text_core::Text;
 
 /// The form with which a command was sent, and what was typed into it that a refusal's page holds.
 #[derive(Drop)]
-pub enum Sent {
+pub enum SubmittedForm {
     /// To open a queue: done or refused, it leads to `/`.
     Queue,
     /// To file a request in the queue, and to send its first text, where one was typed: done, it
@@ -31,6 +31,7 @@ pub enum Sent {
         subject: Text,
         requestors: Text,
         text: Text,
+        status: Option<Text>,
     },
     /// To reply to the request, and to move it to a status, where one was chosen: done, it leads to
     /// the end of its history, and refused to it.
@@ -52,7 +53,7 @@ pub enum Sent {
 
 /// What a message asks of the pages.
 #[derive(Drop)]
-pub enum Visit {
+pub enum PageRequest {
     /// GET of `/style.css`: the style sheet.
     Style,
     /// GET of `/sign-in`: its page, which leads to `/`.
@@ -93,7 +94,7 @@ pub enum Visit {
     Act {
         caller: Text,
         command: Command,
-        sent: Sent,
+        sent: SubmittedForm,
     },
 }
 
@@ -109,7 +110,7 @@ pub fn visit_of(
     settings: &Settings,
     at: u32,
     request: &Request,
-) -> Result<Visit, PageFault>
+) -> Result<PageRequest, PageFault>
     ensures ok { (h : RequestHead) → StartsWith request.now.head h [] → IfOk result (λ visit.
         visits.visit_of settings.now at request.now.message (values_in h) ≡ Ok visit) }
     ensures err { (h : RequestHead) → StartsWith request.now.head h [] → IfErr result (λ fault.
@@ -129,7 +130,7 @@ fn visited(
     at: u32,
     request: &Request,
     place: Place,
-) -> Result<Visit, PageFault>
+) -> Result<PageRequest, PageFault>
     ensures ok { (h : RequestHead) → StartsWith request.now.head h [] → IfOk result (λ visit.
         visits.visited_at settings.now at request.now.message (values_in h) (Some place)
         ≡ Ok visit) }
@@ -158,19 +159,19 @@ fn got(
     at: u32,
     request: &Request,
     place: Place,
-) -> Result<Visit, AllocError>
+) -> Result<PageRequest, AllocError>
     ensures { (h : RequestHead) → StartsWith request.now.head h []
         → IfOk result (λ visit. visit ≡ visits.got settings.now at (values_in h) place) }
 {
     match place {
-        Place::Style => Ok(Visit::Style),
-        Place::SignIn => Ok(Visit::SignIn),
+        Place::Style => Ok(PageRequest::Style),
+        Place::SignIn => Ok(PageRequest::SignIn),
         Place::Page(page) => {
             let caller = looker(alloc, settings, at, request, &page)?;
             Ok(looked(page, caller))
         }
-        Place::Act(_, id) => Ok(Visit::Leads(Page::Request(id))),
-        _ => Ok(Visit::Leads(Page::Home)),
+        Place::Act(_, id) => Ok(PageRequest::Leads(Page::Request(id))),
+        _ => Ok(PageRequest::Leads(Page::Home)),
     }
 }
 
@@ -215,12 +216,12 @@ fn is_search(page: &Page) -> bool
     matches!(page, Page::Find { .. })
 }
 
-fn looked(page: Page, caller: Option<Text>) -> Visit
+fn looked(page: Page, caller: Option<Text>) -> PageRequest
     ensures { result ≡ visits.looked page caller }
 {
     match caller {
-        Some(caller) => Visit::Look { caller, page },
-        None => Visit::Unknown {
+        Some(caller) => PageRequest::Look { caller, page },
+        None => PageRequest::Unknown {
             next: page,
             to_get: true,
         },
@@ -234,7 +235,7 @@ fn posted_from(
     at: u32,
     request: &Request,
     place: Place,
-) -> Result<Visit, PageFault>
+) -> Result<PageRequest, PageFault>
     ensures ok { (h : RequestHead) → StartsWith request.now.head h [] → IfOk result (λ visit.
         visits.posted_from settings.now at (values_in h) request.now.message.body place
         ≡ Ok visit) }
@@ -255,7 +256,7 @@ fn posted(
     at: u32,
     request: &Request,
     place: Place,
-) -> Result<Visit, PageFault>
+) -> Result<PageRequest, PageFault>
     ensures ok { (h : RequestHead) → StartsWith request.now.head h [] → IfOk result (λ visit.
         visits.posted settings.now at (values_in h) request.now.message.body place ≡ Ok visit) }
     ensures err { (h : RequestHead) → StartsWith request.now.head h [] → IfErr result (λ fault.
@@ -264,7 +265,7 @@ fn posted(
 {
     match place {
         Place::SignIn => signing(alloc, settings, at, request.message.body.as_slice()),
-        Place::SignOut => Ok(Visit::SignOut),
+        Place::SignOut => Ok(PageRequest::SignOut),
         place => {
             let caller = caller_of(alloc, settings, at, request)?;
             asked_by(alloc, place, caller, request.message.body.as_slice())

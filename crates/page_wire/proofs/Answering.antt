@@ -17,17 +17,17 @@ use Rattle.message_core.specs.declared.fault.WireFault.TheVariants.{TooLong, Tru
 use Rattle.message_core.specs.declared.request.Request.{Request}
 use Rattle.page_routes.specs.declared.fault.PageFault.{PageFault}
 use Rattle.page_routes.specs.declared.page.Page.{Page}
-use Rattle.page_routes.specs.declared.visit.Sent.{Sent}
-use Rattle.page_routes.specs.declared.visit.Visit.{Visit}
-use Rattle.page_routes.specs.declared.visit.Visit.TheVariants.{Look, Act}
+use Rattle.page_routes.specs.declared.visit.SubmittedForm.{SubmittedForm}
+use Rattle.page_routes.specs.declared.visit.PageRequest.{PageRequest}
+use Rattle.page_routes.specs.declared.visit.PageRequest.TheVariants.{Look, Act}
 use Rattle.page_routes.specs.Places.{is_page_path, path_in}
 use Rattle.page_routes.specs.Visits.{visit_of}
 use Rattle.service_core.specs.Leaves.{LeavesDesk}
 use Rattle.service_core.specs.Seen.{settings_of, tables_of}
-use Rattle.service_core.specs.TableSteps.{LeadsOn}
+use Rattle.service_core.specs.TableSteps.{OverTables}
 use Rattle.service_core.specs.declared.desk.Desk.{Desk as Service}
 use Rattle.sqlite.specs.Store.{Ghosts}
-use Rattle.store_tables.specs.Calls.{Spares}
+use Rattle.store_tables.specs.Calls.{LeavesTables}
 use Rattle.store_tables.proofs.Spared.{unread}
 use Rattle.wire_core.specs.Replies.{TellsFault, is_head}
 use Rattle.wire_core.specs.Runs.{Sent as Message}
@@ -121,7 +121,7 @@ by_yes b Yes No is holds = subst (λ (c : Bool). By c Yes No) (sym is) holds
 -- whoever asks whether the desk is there is told
 pub health_told : {A E : Type 0} (s : Settings) (at : ℕ) (request : Request) (h : Bool)
     (r : Result (Vec ℕ A) E) (old new : State) → asks_health request.message ≡ true
-    → h ≡ is_head request.message → Spares old new → IfOk r (λ out. TellsHealth h out.items)
+    → h ≡ is_head request.message → LeavesTables old new → IfOk r (λ out. TellsHealth h out.items)
     → IfOk r (λ out. SentStepsOn s at (Ok request) out.items old new)
 health_told s at request h (Ok out) old new is head kept told =
     let so = subst (λ (b : Bool). TellsHealth b out.items) head told in
@@ -156,15 +156,15 @@ on_pages s at request (Err e) old new health is steps = tt
 
 -- a call that failed and left the desk as it was spares the tables
 pub spared_err : {S X E : Type 0} (g : Ghosts S) (old new : Service S g) (r : Result X E)
-    → OnErr r (new ≡ old) → OnErr r (Spares (tables_of g old) (tables_of g new))
+    → OnErr r (new ≡ old) → OnErr r (LeavesTables (tables_of g old) (tables_of g new))
 spared_err g old new (Ok x) same = tt
 spared_err {S} g old new (Err e) same =
-    subst (λ (d : Service S g). Spares (tables_of g old) (tables_of g d)) (sym same)
+    subst (λ (d : Service S g). LeavesTables (tables_of g old) (tables_of g d)) (sym same)
     (unread (tables_of g old))
 
 -- a call that spares the tables leaves the desk
 pub left_spared : {S : Type 0} (g : Ghosts S) (old new : Service S g)
-    → settings_of g new ≡ settings_of g old → Spares (tables_of g old) (tables_of g new)
+    → settings_of g new ≡ settings_of g old → LeavesTables (tables_of g old) (tables_of g new)
     → LeavesDesk g old new
 left_spared g old new same kept =
     record { same = same; clean = kept.clean; lasts = kept.lasts }
@@ -183,7 +183,7 @@ left_out s at request bytes old new told stay =
     leads_wider s _ _ old new (λ desk after same. inl (told, same)) stay
 
 -- a visit was made
-pub visited : {X E : Type 0} (s : Settings) (at : ℕ) (request : Request) (visit : Visit)
+pub visited : {X E : Type 0} (s : Settings) (at : ℕ) (request : Request) (visit : PageRequest)
     (r : Result X E) (bytes : List ℕ) (old new : State)
     → ((h : RequestHead) → StartsWith request.head h []
     → visit_of s at request.message (values_in h) ≡ Ok visit)
@@ -192,12 +192,12 @@ pub visited : {X E : Type 0} (s : Settings) (at : ℕ) (request : Request) (visi
 visited s at request visit (Ok x) bytes old new is steps =
     leads_wider s _ _ old new
     (λ desk after step head starts.
-    subst (λ (asked : Result Visit PageFault). PageSteps s at (is_head request.message) asked desk bytes after)
+    subst (λ (asked : Result PageRequest PageFault). PageSteps s at (is_head request.message) asked desk bytes after)
     (sym (is head starts)) step) steps
 visited s at request visit (Err e) bytes old new is steps = tt
 
 -- its reply is told, or the head of it
-pub told_so : (s : Settings) (at : ℕ) (head_only : Bool) (visit : Visit) (whole bytes : List ℕ)
+pub told_so : (s : Settings) (at : ℕ) (head_only : Bool) (visit : PageRequest) (whole bytes : List ℕ)
     (old new : State) → VisitStepsOn s at visit whole old new → bytes ≡ told_of head_only whole
     → ToldStepsOn s at head_only visit bytes old new
 told_so s at head_only visit whole bytes old new steps told =
@@ -212,15 +212,15 @@ pub faulted : {X E : Type 0} (s : Settings) (at : ℕ) (request : Request) (faul
     → OnOk r (AskedStepsOn s at request bytes tables tables)
 faulted s at request fault (Ok x) bytes tables is told =
     leads_nowhere s _ tables
-    (λ desk head starts. subst (λ (asked : Result Visit PageFault). PageSteps s at
+    (λ desk head starts. subst (λ (asked : Result PageRequest PageFault). PageSteps s at
     (is_head request.message) asked desk bytes desk) (sym (is head starts)) (told, refl))
 faulted s at request fault (Err e) bytes tables is told = tt
 
 -- ---- a visit
 
-at_its_moment : (s : Settings) (at : ℕ) (visit : Visit) (bytes : List ℕ) (old new : State)
+at_its_moment : (s : Settings) (at : ℕ) (visit : PageRequest) (bytes : List ℕ) (old new : State)
     → is_due_moment at ≡ true
-    → LeadsOn s (λ desk after. AsksAt s at visit desk bytes after) old new
+    → OverTables s (λ desk after. AsksAt s at visit desk bytes after) old new
     → VisitStepsOn s at visit bytes old new
 at_its_moment s at visit bytes old new is steps =
     leads_wider s _ _ old new (λ desk after step. by_yes (is_due_moment at) _ _ is step) steps
@@ -230,7 +230,7 @@ is_moment : (b : Bool) (n m : ℕ) → Some m ≡ cond b (Some n) None → (b �
 is_moment true n m e = (refl, cc)
 is_moment false n m e = absurd cc
 
-pub look_visit : {A X E F : Type 0} (s : Settings) (at : ℕ) (visit : Visit) (caller : List ℕ)
+pub look_visit : {A X E F : Type 0} (s : Settings) (at : ℕ) (visit : PageRequest) (caller : List ℕ)
     (page : Page) (moment : ℕ) (made : Result (Vec ℕ A) E) (r : Result X F) (room : Vec ℕ A)
     (old new : State) → visit ≡ Look caller page
     → Some moment ≡ (if is_due_moment at then Some at else None)
@@ -240,12 +240,12 @@ look_visit s at visit caller page moment made (Ok x) room old new asked is steps
     let when = is_moment (is_due_moment at) at moment is in
     let looked = subst (λ m. IfOk m (λ out. LookStepsOn s moment caller page out.items old new)) same steps in
     let now = subst (λ n. LookStepsOn s n caller page room.items old new) when.1 looked in
-    subst (λ (v : Visit). VisitStepsOn s at v room.items old new) (sym asked)
+    subst (λ (v : PageRequest). VisitStepsOn s at v room.items old new) (sym asked)
     (at_its_moment s at (Look caller page) room.items old new when.0 now)
 look_visit s at visit caller page moment made (Err e) room old new asked is steps same = tt
 
-pub act_visit : {X F : Type 0} (s : Settings) (at : ℕ) (visit : Visit) (caller : List ℕ)
-    (command : Command) (sent : Sent) (moment : ℕ) (r : Result X F) (bytes : List ℕ)
+pub act_visit : {X F : Type 0} (s : Settings) (at : ℕ) (visit : PageRequest) (caller : List ℕ)
+    (command : Command) (sent : SubmittedForm) (moment : ℕ) (r : Result X F) (bytes : List ℕ)
     (old new : State) → visit ≡ Act caller command sent
     → Some moment ≡ (if is_due_moment at then Some at else None)
     → OnOk r (FormStepsOn s moment caller command sent bytes old new)
@@ -254,6 +254,6 @@ act_visit s at visit caller command sent moment (Ok x) bytes old new asked is st
     let when = is_moment (is_due_moment at) at moment is in
     let now =
     subst (λ n. FormStepsOn s n caller command sent bytes old new) when.1 steps in
-    subst (λ (v : Visit). VisitStepsOn s at v bytes old new) (sym asked)
+    subst (λ (v : PageRequest). VisitStepsOn s at v bytes old new) (sym asked)
     (at_its_moment s at (Act caller command sent) bytes old new when.0 now)
 act_visit s at visit caller command sent moment (Err e) bytes old new asked is steps = tt

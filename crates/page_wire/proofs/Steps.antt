@@ -24,19 +24,20 @@ use Rattle.service_core.specs.Finding.{FindsOn}
 use Rattle.service_core.specs.Leaves.{LeavesDesk}
 use Rattle.service_core.specs.Loading.{LoadsOn}
 use Rattle.service_core.specs.Seen.{settings_of, tables_of}
-use Rattle.service_core.specs.TableSteps.{LeadsOn, StepsOn, ask_by}
+use Rattle.service_core.specs.TableSteps.{OverTables, StepOverTables, ask_by}
 use Rattle.service_core.specs.declared.desk.Desk as service
 use Rattle.service_core.proofs.LeftLemmas.{left_same}
 use Rattle.service_core.proofs.Stepping.{unchanged}
 use Rattle.store_core.specs.Due.{due_of_row}
 use Rattle.store_tables.proofs.Spared.{stands}
-use Rattle.store_tables.specs.Calls.{Spares, WasClean}
+use Rattle.store_tables.specs.Calls.{LeavesTables, WasClean}
 use Rattle.store_tables.specs.Contents.{contents_of}
 use Rattle.wire_core.specs.Steps.{StaysOn}
 use Rattle.wire_core.proofs.Stepping.{leads_nowhere, leads_wider, stays}
-use Rattle.page_routes.specs.declared.visit.Sent.{Sent}
-use Rattle.page_wire.specs.Forms.{FormStepsOn, IsTold, SecondStepsOn}
-use Rattle.page_wire.specs.Next.{next_command}
+use Rattle.page_routes.specs.declared.visit.SubmittedForm.{SubmittedForm}
+use Rattle.page_wire.specs.Forms.{FormStepsOn, IsTold, SecondStepsOn, StepsUnless, StepsUnrefusedOn}
+use Rattle.page_wire.specs.Forms.{refused_before}
+use Rattle.page_wire.specs.Next.{follow_up_command}
 use Rattle.page_wire.specs.Replies.{done_reply, home_reply, refused_reply, request_reply}
 use Rattle.page_wire.specs.Steps.{DoesOn, Finds, HomeSteps, LookedBy, LooksAt, Tells}
 
@@ -56,31 +57,31 @@ step_stays s ask old new outcome reads (inr (told, same)) =
     (effect s ask.at ask.caller ask.command old) (unchanged s ask old reads)
 
 pub reading_stays : (s : Settings) (ask : Ask) (outcome : Outcome) (old new : State)
-    → IsReading ask.command → StepsOn s ask outcome old new → StaysOn s old new
+    → IsReading ask.command → StepOverTables s ask outcome old new → StaysOn s old new
 reading_stays s ask outcome old new reads steps desk is stands clean =
     let step = steps desk is stands clean in
     (step.0, (step_stays s ask desk step.0 outcome reads step.1.0.step, step.1.1), step.2)
 
-pub spared_stays : (s : Settings) (old new : State) → Spares old new → StaysOn s old new
+pub spared_stays : (s : Settings) (old new : State) → LeavesTables old new → StaysOn s old new
 spared_stays s old new kept desk is stand clean =
     (desk, (refl, is), stands kept (contents_of (due_of_row s desk) desk) stand)
 
 pub spared_if : {X E : Type 0} (s : Settings) (r : Result X E) (old new : State)
-    → Spares old new → OnErr r (StaysOn s old new)
+    → LeavesTables old new → OnErr r (StaysOn s old new)
 spared_if s (Ok x) old new kept = tt
 spared_if s (Err e) old new kept = spared_stays s old new kept
 
 -- the same command at the same moment
 pub at_moment : (s : Settings) (n m : ℕ) (caller : List ℕ) (command : Command) (outcome : Outcome)
-    (old new : State) → n ≡ m → StepsOn s (ask_by n caller command) outcome old new
-    → StepsOn s (ask_by m caller command) outcome old new
+    (old new : State) → n ≡ m → StepOverTables s (ask_by n caller command) outcome old new
+    → StepOverTables s (ask_by m caller command) outcome old new
 at_moment s n m caller command outcome old new same steps =
-    subst (λ (at : ℕ). StepsOn s (ask_by at caller command) outcome old new) same steps
+    subst (λ (at : ℕ). StepOverTables s (ask_by at caller command) outcome old new) same steps
 
 -- ---- what came of a command, and the reply
 
 pub does : {A E : Type 0} (s : Settings) (ask : Ask) (reply : Outcome → List ℕ)
-    (outcome : Outcome) (r : Result (Vec ℕ A) E) (old new : State) → StepsOn s ask outcome old new
+    (outcome : Outcome) (r : Result (Vec ℕ A) E) (old new : State) → StepOverTables s ask outcome old new
     → IfOk r (λ out. out.items ≡ reply outcome)
     → IfOk r (λ out. DoesOn s ask reply out.items old new)
 does s ask reply outcome (Ok out) old new steps told =
@@ -88,7 +89,7 @@ does s ask reply outcome (Ok out) old new steps told =
 does s ask reply outcome (Err e) old new steps told = tt
 
 pub stays_if : {X E : Type 0} (s : Settings) (ask : Ask) (outcome : Outcome) (r : Result X E)
-    (old new : State) → IsReading ask.command → StepsOn s ask outcome old new
+    (old new : State) → IsReading ask.command → StepOverTables s ask outcome old new
     → OnErr r (StaysOn s old new)
 stays_if s ask outcome (Ok x) old new reads steps = tt
 stays_if s ask outcome (Err e) old new reads steps = reading_stays s ask outcome old new reads steps
@@ -100,9 +101,9 @@ pub homes : {A E : Type 0} (s : Settings) (at : ℕ) (caller : List ℕ)
     → FindsOn s at caller (owned_by caller) 20 None own old one
     → FindsOn s at caller (asked_by caller) 20 None asked one two
     → FindsOn s at caller unowned 20 None free two three → LoadsOn s at caller loads three new
-    → Spares one two → Spares two three → Spares three new
+    → LeavesTables one two → LeavesTables two three → LeavesTables three new
     → IfOk r (λ out. out.items ≡ home_reply s caller at own asked loads free)
-    → IfOk r (λ out. LeadsOn s (λ desk after. HomeSteps s at caller desk out.items after) old new)
+    → IfOk r (λ out. OverTables s (λ desk after. HomeSteps s at caller desk out.items after) old new)
 homes s at caller own asked free loads (Ok out) old one two three new owns asks frees tells second third
     fourth told =
     λ desk is stand clean. let after_three = fourth.clean clean in
@@ -124,7 +125,7 @@ pub finds : {A E : Type 0} (s : Settings) (at : ℕ) (caller : List ℕ) (start 
     (r : Result (Vec ℕ A) E) (old new : State)
     → FindsOn s at caller search 101 (place_of start) result old new
     → IfOk r (λ out. out.items ≡ reply result)
-    → IfOk r (λ out. LeadsOn s
+    → IfOk r (λ out. OverTables s
     (λ desk after. Finds s at caller start search reply desk out.items after) old new)
 finds s at caller start search reply result (Ok out) old new tells told =
     λ desk is stand clean. let found = tells desk is stand clean in
@@ -134,7 +135,7 @@ finds s at caller start search reply result (Err e) old new tells told = tt
 -- a page that asks the desk for nothing
 pub tells_fixed : {A E : Type 0} (s : Settings) (reply : List ℕ) (r : Result (Vec ℕ A) E)
     (tables : State) → IfOk r (λ out. out.items ≡ reply)
-    → IfOk r (λ out. LeadsOn s (λ desk after. Tells reply desk out.items after) tables tables)
+    → IfOk r (λ out. OverTables s (λ desk after. Tells reply desk out.items after) tables tables)
 tells_fixed s reply (Ok out) tables told =
     leads_nowhere s _ tables (λ desk. (told, refl))
 tells_fixed s reply (Err e) tables told = tt
@@ -149,7 +150,7 @@ pub looks : {A E : Type 0} (s : Settings) (at : ℕ) (caller : List ℕ) (id : �
     (result : Result Dossier Refusal) (r : Result (Vec ℕ A) E) (old new : State)
     → DossierOn s at caller id result old new
     → IfOk r (λ out. out.items ≡ request_reply s caller at result)
-    → IfOk r (λ out. LeadsOn s (λ desk after. LooksAt s at caller id desk out.items after) old new)
+    → IfOk r (λ out. OverTables s (λ desk after. LooksAt s at caller id desk out.items after) old new)
 looks s at caller id result (Ok out) old new tells told =
     λ desk is stand clean. let found = tells desk is stand clean in
     (desk, ((result, found.0, (told, refl)), is), found.1)
@@ -159,56 +160,83 @@ looks s at caller id result (Err e) old new tells told = tt
 
 -- its command was refused
 pub form_refused : {X E : Type 0} (s : Settings) (at : ℕ) (caller : List ℕ) (command : Command)
-    (sent : Sent) (refusal : Refusal) (r : Result X E) (bytes : List ℕ) (old new : State)
-    → StepsOn s (ask_by at caller command) (Err refusal) old new
+    (sent : SubmittedForm) (refusal : Refusal) (r : Result X E) (bytes : List ℕ) (old new : State)
+    → StepOverTables s (ask_by at caller command) (Err refusal) old new
     → OnOk r (bytes ≡ refused_reply caller at sent refusal)
-    → OnOk r (FormStepsOn s at caller command sent bytes old new)
+    → OnOk r (StepsUnrefusedOn s at caller command sent bytes old new)
 form_refused s at caller command sent refusal (Ok x) bytes old new steps told =
     leads_wider s _ _ old new (λ desk after step. (Err refusal, after, step, (told, refl))) steps
 form_refused s at caller command sent refusal (Err e) bytes old new steps told = tt
 
 -- its command was done, and the second one followed, by settings that the first leaves
-pub form_done : (s t : Settings) (at : ℕ) (caller : List ℕ) (command : Command) (sent : Sent)
+pub form_done : (s t : Settings) (at : ℕ) (caller : List ℕ) (command : Command) (sent : SubmittedForm)
     (answer : Answer) (second : Option Command) (bytes : List ℕ) (old mid new : State) → t ≡ s
-    → WasClean mid new → second ≡ next_command sent answer
-    → StepsOn s (ask_by at caller command) (Ok answer) old mid
+    → WasClean mid new → second ≡ follow_up_command sent answer
+    → StepOverTables s (ask_by at caller command) (Ok answer) old mid
     → SecondStepsOn t at caller sent answer second bytes mid new
-    → FormStepsOn s at caller command sent bytes old new
+    → StepsUnrefusedOn s at caller command sent bytes old new
 form_done s t at caller command sent answer second bytes old mid new same honest is one two =
     λ desk formed stand clean. let step = one desk formed stand (honest clean) in
     let next =
     subst (λ (c : Option Command). SecondStepsOn t at caller sent answer c bytes mid new) is two in
     let last =
-    subst (λ (u : Settings). SecondStepsOn u at caller sent answer (next_command sent answer) bytes
+    subst (λ (u : Settings). SecondStepsOn u at caller sent answer (follow_up_command sent answer) bytes
     mid new) same next step.0 step.1.1 step.2 clean in
     (last.0, ((Ok answer, step.0, step.1.0, last.1.0), last.1.1), last.2)
 
+-- its second command was refused beforehand
+pub form_stopped : {X E : Type 0} (s : Settings) (at : ℕ) (caller : List ℕ) (command : Command)
+    (sent : SubmittedForm) (refusal : Refusal) (r : Result X E) (bytes : List ℕ) (tables : State)
+    → Some refusal ≡ refused_before s at caller sent
+    → OnOk r (bytes ≡ refused_reply caller at sent refusal)
+    → OnOk r (FormStepsOn s at caller command sent bytes tables tables)
+form_stopped s at caller command sent refusal (Ok x) bytes tables is told =
+    leads_nowhere s _ tables (λ desk. subst (λ (before : Option Refusal). StepsUnless s at caller
+    command sent before desk bytes desk) is (told, refl))
+form_stopped s at caller command sent refusal (Err e) bytes tables is told = tt
+
+-- it wasn't
+pub form_begun : {X E : Type 0} (s : Settings) (at : ℕ) (caller : List ℕ) (command : Command)
+    (sent : SubmittedForm) (r : Result X E) (bytes : List ℕ) (old new : State)
+    → None ≡ refused_before s at caller sent
+    → OnOk r (StepsUnrefusedOn s at caller command sent bytes old new)
+    → OnOk r (FormStepsOn s at caller command sent bytes old new)
+form_begun s at caller command sent (Ok x) bytes old new is steps =
+    leads_wider s _ _ old new (λ desk after step. subst (λ (before : Option Refusal). StepsUnless s at
+    caller command sent before desk bytes after) is step) steps
+form_begun s at caller command sent (Err e) bytes old new is steps = tt
+
 -- there is no second command
-pub no_second : (s : Settings) (at : ℕ) (caller : List ℕ) (sent : Sent) (answer : Answer)
+pub no_second : (s : Settings) (at : ℕ) (caller : List ℕ) (sent : SubmittedForm) (answer : Answer)
     (bytes : List ℕ) (tables : State) → bytes ≡ done_reply sent answer
     → SecondStepsOn s at caller sent answer None bytes tables tables
 no_second s at caller sent answer bytes tables told =
     leads_nowhere s _ tables (λ desk. (told, refl))
 
 -- this came of it
-pub second_told : (s : Settings) (at : ℕ) (caller : List ℕ) (sent : Sent) (answer : Answer)
+pub second_told : (s : Settings) (at : ℕ) (caller : List ℕ) (sent : SubmittedForm) (answer : Answer)
     (command : Command) (outcome : Outcome) (bytes : List ℕ) (old new : State)
-    → StepsOn s (ask_by at caller command) outcome old new
+    → StepOverTables s (ask_by at caller command) outcome old new
     → IsTold caller at sent answer outcome bytes
     → SecondStepsOn s at caller sent answer (Some command) bytes old new
 second_told s at caller sent answer command outcome bytes old new steps told =
     leads_wider s _ _ old new (λ desk after step. (outcome, step, told)) steps
 
 pub stays_with : {X E : Type 0} (P : Type 0) (s : Settings) (r : Result X E) (old new : State)
-    → OnErr r P → Spares old new → OnErr r (P × StaysOn s old new)
+    → OnErr r P → LeavesTables old new → OnErr r (P × StaysOn s old new)
 stays_with P s (Ok x) old new holds kept = tt
 stays_with P s (Err e) old new holds kept = (holds, spared_stays s old new kept)
+
+pub stays_told : {X E : Type 0} (P : Type 0) (s : Settings) (r : Result X E) (tables : State)
+    → OnErr r P → OnErr r (P × StaysOn s tables tables)
+stays_told P s (Ok x) tables holds = tt
+stays_told P s (Err e) tables holds = (holds, stays s tables)
 
 -- ---- the readings for a page, as they end
 
 -- a reading leaves the desk
 pub left_spared : {S : Type 0} (g : Ghosts S) (old new : service.Desk S g)
-    → settings_of g new ≡ settings_of g old → Spares (tables_of g old) (tables_of g new)
+    → settings_of g new ≡ settings_of g old → LeavesTables (tables_of g old) (tables_of g new)
     → LeavesDesk g old new
 left_spared g old new same kept =
     record { same = same; clean = kept.clean; lasts = kept.lasts }

@@ -1,30 +1,32 @@
 -- The step of a form: its command, and the second one where there is one.
 use Rattle.std.specs.Prelude.{◌≡◌, ◌⊎◌, ℕ, List, Option, Some, None, Ok, Err}
+use Rattle.std.specs.Option.{option_and_then}
 use Rattle.sqlite.specs.State.{State}
 use Rattle.settings_core.specs.declared.settings.Settings.{Settings}
 use Rattle.desk_model.specs.Desk.{Desk}
-use Rattle.desk_model.specs.Step.{Outcome}
+use Rattle.desk_model.specs.Step.{Outcome, refusal_beforehand}
 use Rattle.desk_model.specs.declared.answer.Answer.{Answer}
+use Rattle.desk_model.specs.declared.answer.Answer.TheVariants as answer
 use Rattle.desk_model.specs.declared.command.Command.{Command}
 use Rattle.desk_model.specs.declared.refusal.Refusal.{Refusal}
-use Rattle.page_routes.specs.declared.visit.Sent.{Sent}
-use Rattle.service_core.specs.TableSteps.{IsStep, LeadsOn, ask_by}
-use Rattle.page_wire.specs.Next.{next_command}
+use Rattle.page_routes.specs.declared.visit.SubmittedForm.{SubmittedForm}
+use Rattle.service_core.specs.TableSteps.{IsStep, OverTables, ask_by}
+use Rattle.page_wire.specs.Next.{follow_up_command}
 use Rattle.page_wire.specs.Replies.{done_reply, half_reply, refused_reply}
 
 -- The second command was refused: the reply says what was done and what wasn't. Out of memory it
 -- leads on as after the first, since something was done.
-abbrev pub IsHalfTold : List ℕ → ℕ → Sent → Answer → Refusal → List ℕ → Type 0
-IsHalfTold caller at sent answer refusal bytes =
+abbrev pub TellsPartlyDone : List ℕ → ℕ → SubmittedForm → Answer → Refusal → List ℕ → Type 0
+TellsPartlyDone caller at sent answer refusal bytes =
     (bytes ≡ half_reply caller at sent answer refusal) ⊎ (bytes ≡ done_reply sent answer)
 
 -- what is told of the second command
-abbrev pub IsTold : List ℕ → ℕ → Sent → Answer → Outcome → List ℕ → Type 0
+abbrev pub IsTold : List ℕ → ℕ → SubmittedForm → Answer → Outcome → List ℕ → Type 0
 IsTold caller at sent answer (Ok other) bytes = bytes ≡ done_reply sent answer
-IsTold caller at sent answer (Err refusal) bytes = IsHalfTold caller at sent answer refusal bytes
+IsTold caller at sent answer (Err refusal) bytes = TellsPartlyDone caller at sent answer refusal bytes
 
 -- the second command, where there is one, and the reply
-abbrev pub SecondSteps : Settings → ℕ → List ℕ → Sent → Answer → Option Command → Desk → List ℕ
+abbrev pub SecondSteps : Settings → ℕ → List ℕ → SubmittedForm → Answer → Option Command → Desk → List ℕ
     → Desk → Type 0
 SecondSteps settings at caller sent answer None old bytes new =
     (bytes ≡ done_reply sent answer) × (new ≡ old)
@@ -33,26 +35,54 @@ SecondSteps settings at caller sent answer (Some second) old bytes new =
     × IsTold caller at sent answer outcome bytes
 
 -- after a first command that was refused nothing follows
-abbrev pub AfterFirst : Settings → ℕ → List ℕ → Sent → Outcome → Desk → List ℕ → Desk → Type 0
+abbrev pub AfterFirst : Settings → ℕ → List ℕ → SubmittedForm → Outcome → Desk → List ℕ → Desk → Type 0
 AfterFirst settings at caller sent (Err refusal) old bytes new =
     (bytes ≡ refused_reply caller at sent refusal) × (new ≡ old)
 AfterFirst settings at caller sent (Ok answer) old bytes new =
-    SecondSteps settings at caller sent answer (next_command sent answer) old bytes new
+    SecondSteps settings at caller sent answer (follow_up_command sent answer) old bytes new
 
--- the step of a form that was sent with this command
-abbrev pub FormSteps : Settings → ℕ → List ℕ → Command → Sent → Desk → List ℕ → Desk → Type 0
-FormSteps settings at caller command sent old bytes new =
+-- what the second command is refused for whatever stands on the desk, if for anything: the same
+-- whichever number a new request gets
+abbrev pub refused_before : Settings → ℕ → List ℕ → SubmittedForm → Option Refusal
+refused_before settings at caller sent =
+    option_and_then (refusal_beforehand settings at caller)
+    (follow_up_command sent (answer.Created 0))
+
+-- the first command, and the second after it
+abbrev pub StepsUnrefused : Settings → ℕ → List ℕ → Command → SubmittedForm → Desk → List ℕ → Desk
+    → Type 0
+StepsUnrefused settings at caller command sent old bytes new =
     (outcome : Outcome) × (mid : Desk) × IsStep settings (ask_by at caller command) old outcome mid
     × AfterFirst settings at caller sent outcome mid bytes new
 
+-- where the second is refused beforehand nothing is done
+abbrev pub StepsUnless : Settings → ℕ → List ℕ → Command → SubmittedForm → Option Refusal → Desk
+    → List ℕ → Desk → Type 0
+StepsUnless settings at caller command sent None old bytes new =
+    StepsUnrefused settings at caller command sent old bytes new
+StepsUnless settings at caller command sent (Some refusal) old bytes new =
+    (bytes ≡ refused_reply caller at sent refusal) × (new ≡ old)
+
+-- the step of a form that was sent with this command
+abbrev pub FormSteps : Settings → ℕ → List ℕ → Command → SubmittedForm → Desk → List ℕ → Desk → Type 0
+FormSteps settings at caller command sent old bytes new =
+    StepsUnless settings at caller command sent (refused_before settings at caller sent) old bytes
+    new
+
 -- ---- over tables
 
-abbrev pub SecondStepsOn : Settings → ℕ → List ℕ → Sent → Answer → Option Command → List ℕ → State
+abbrev pub StepsUnrefusedOn : Settings → ℕ → List ℕ → Command → SubmittedForm → List ℕ → State → State
+    → Type 0
+StepsUnrefusedOn settings at caller command sent bytes =
+    OverTables settings
+    (λ desk after. StepsUnrefused settings at caller command sent desk bytes after)
+
+abbrev pub SecondStepsOn : Settings → ℕ → List ℕ → SubmittedForm → Answer → Option Command → List ℕ → State
     → State → Type 0
 SecondStepsOn settings at caller sent answer second bytes =
-    LeadsOn settings
+    OverTables settings
     (λ desk after. SecondSteps settings at caller sent answer second desk bytes after)
 
-abbrev pub FormStepsOn : Settings → ℕ → List ℕ → Command → Sent → List ℕ → State → State → Type 0
+abbrev pub FormStepsOn : Settings → ℕ → List ℕ → Command → SubmittedForm → List ℕ → State → State → Type 0
 FormStepsOn settings at caller command sent bytes =
-    LeadsOn settings (λ desk after. FormSteps settings at caller command sent desk bytes after)
+    OverTables settings (λ desk after. FormSteps settings at caller command sent desk bytes after)

@@ -6,8 +6,8 @@ use Rattle.desk_model.specs.declared.answer.Answer.{Answer}
 use Rattle.desk_model.specs.declared.answer.Answer.TheVariants as answer
 use Rattle.desk_model.specs.declared.command.Command.{Command}
 use Rattle.desk_model.specs.declared.command.Command.TheVariants as command
-use Rattle.page_routes.specs.declared.visit.Sent.{Sent}
-use Rattle.page_routes.specs.declared.visit.Sent.TheVariants as sent
+use Rattle.page_routes.specs.declared.visit.SubmittedForm.{SubmittedForm}
+use Rattle.page_routes.specs.declared.visit.SubmittedForm.TheVariants as sent
 
 -- a space, a tab or the end of a line
 abbrev pub is_space : ℕ → Bool
@@ -18,18 +18,18 @@ is_blank text = list_all is_space text
 
 -- what its command takes: the first text of a new request, unless it is blank, and the status that
 -- was chosen with a reply
-abbrev pub next_text : Sent → Option (List ℕ)
-next_text (sent.New queue subject requestors text) = if is_blank text then None else Some text
+abbrev pub next_text : SubmittedForm → Option (List ℕ)
+next_text (sent.New queue subject requestors text status) = if is_blank text then None else Some text
 next_text (sent.Reply id text status) = status
 next_text _ = None
 
 -- the first text is a reply to the request that was filed
-abbrev pub with_text : Sent → Answer → List ℕ → Option Command
-with_text (sent.New queue subject requestors typed) (answer.Created id) text =
+abbrev pub with_text : SubmittedForm → Answer → List ℕ → Option Command
+with_text (sent.New queue subject requestors typed status) (answer.Created id) text =
     Some (command.Reply id text)
 with_text (sent.Reply id typed chosen) answer status = Some (command.SetStatus id status)
 with_text _ _ _ = None
 
 -- the second command, after this answer to the first
-abbrev pub next_command : Sent → Answer → Option Command
-next_command sent answer = option_and_then (with_text sent answer) (next_text sent)
+abbrev pub follow_up_command : SubmittedForm → Answer → Option Command
+follow_up_command sent answer = option_and_then (with_text sent answer) (next_text sent)

@@ -26,7 +26,6 @@ use Rattle.page_core.specs.Page.{Part, page_bytes}
 use Rattle.desk_pages.specs.Find.{find_fault_page, find_page}
 use Rattle.desk_pages.specs.Home.{home_page}
 use Rattle.desk_pages.specs.New.{new_page}
-use Rattle.desk_pages.specs.Overdue.{overdue_page}
 use Rattle.desk_pages.specs.RefusalPage.{ask_refusal_page, comment_refusal_page, filed_page}
 use Rattle.desk_pages.specs.RefusalPage.{refusal_page, replied_page, reply_refusal_page}
 use Rattle.desk_pages.specs.RefusalPage.{request_refusal_page}
@@ -38,10 +37,10 @@ use Rattle.page_reply.specs.declared.reply.CookieChange.{CookieChange}
 use Rattle.page_reply.specs.declared.reply.CookieChange.TheVariants.{Keep, Session, Stay}
 use Rattle.page_routes.specs.declared.page.Page as routes
 use Rattle.page_routes.specs.Paths.{path_of}
-use Rattle.page_routes.specs.declared.visit.Sent.{Sent}
-use Rattle.page_routes.specs.declared.visit.Sent.TheVariants as sent
+use Rattle.page_routes.specs.declared.visit.SubmittedForm.{SubmittedForm}
+use Rattle.page_routes.specs.declared.visit.SubmittedForm.TheVariants as sent
 use Rattle.wire_core.specs.Replies.{code_of_refusal}
-use Rattle.page_wire.specs.Led.{led_by, led_to}
+use Rattle.page_wire.specs.Redirect.{led_by, led_to}
 
 -- a page, with its code
 abbrev pub with_page : ℕ → List ℕ → List ℕ
@@ -119,6 +118,10 @@ home_reply settings caller at (Ok own) (Ok asked) (Ok loads) (Err refusal) =
 abbrev pub queue_query : List ℕ → List ℕ
 queue_query queue = codes "queue=" ++ (queue ++ codes "&state=open")
 
+-- the fields of the search for what is late, the most overdue first
+abbrev pub late_query : List ℕ
+late_query = codes "late=yes&order=due"
+
 abbrev pub find_reply : List ℕ → ℕ → List ℕ → Start → FindForm → Order → Result Findings Refusal
     → List ℕ
 find_reply caller at query start form order (Ok found) =
@@ -146,12 +149,6 @@ new_reply settings queue caller at (Ok (answer.Queues rows)) =
 new_reply settings queue caller at (Err refusal) = refused caller at refusal
 new_reply settings queue caller at (Ok other) = no_answer caller at
 
-abbrev pub overdue_reply : List ℕ → ℕ → Outcome → List ℕ
-overdue_reply caller at (Ok (answer.Late lines)) =
-    with_page 200 (page_bytes (overdue_page caller at lines))
-overdue_reply caller at (Err refusal) = refused caller at refusal
-overdue_reply caller at (Ok other) = no_answer caller at
-
 abbrev pub workload_reply : List ℕ → ℕ → Outcome → List ℕ
 workload_reply caller at (Ok (answer.Workload loads)) =
     with_page 200 (page_bytes (workload_page caller at loads))
@@ -166,34 +163,34 @@ request_reply settings caller at (Err refusal) = refused caller at refusal
 -- ---- what came of a form
 
 -- done: to the request that was filed, and else where the form leads
-abbrev pub done_reply : Sent → Answer → List ℕ
+abbrev pub done_reply : SubmittedForm → Answer → List ℕ
 done_reply sent (answer.Created id) = led_to id
 done_reply sent other = led_by sent
 
--- refused: its page, with what was typed
-abbrev pub refused_form : List ℕ → ℕ → Sent → Refusal → List Part
+-- refused: its page, with what was typed and chosen
+abbrev pub refused_form : List ℕ → ℕ → SubmittedForm → Refusal → List Part
 refused_form caller at sent.Queue refusal = refusal_page refusal caller at
-refused_form caller at (sent.New queue subject requestors text) refusal =
-    ask_refusal_page refusal caller at queue subject text requestors [] []
+refused_form caller at (sent.New queue subject requestors text status) refusal =
+    ask_refusal_page refusal caller at queue subject text requestors status
 refused_form caller at (sent.Reply id text status) refusal =
     reply_refusal_page refusal caller at id text status
 refused_form caller at (sent.Comment id text) refusal =
     comment_refusal_page refusal caller at id text
 refused_form caller at (sent.Change id) refusal = request_refusal_page refusal caller at id
 
-abbrev pub refused_reply : List ℕ → ℕ → Sent → Refusal → List ℕ
+abbrev pub refused_reply : List ℕ → ℕ → SubmittedForm → Refusal → List ℕ
 refused_reply caller at sent refusal =
     with_page (code_of_refusal refusal) (page_bytes (refused_form caller at sent refusal))
 
 -- its first command done and its second refused: what was done and what wasn't, with a text that
 -- wasn't sent; no other form has a second command
-abbrev pub half_form : List ℕ → ℕ → Sent → Answer → Refusal → List Part
-half_form caller at (sent.New queue subject requestors text) (answer.Created id) refusal =
+abbrev pub half_form : List ℕ → ℕ → SubmittedForm → Answer → Refusal → List Part
+half_form caller at (sent.New queue subject requestors text status) (answer.Created id) refusal =
     filed_page refusal caller at id text
 half_form caller at (sent.Reply id text status) answer refusal =
     replied_page refusal caller at id (unwrap_or status [])
 half_form caller at other answer refusal = refusal_page refusal caller at
 
-abbrev pub half_reply : List ℕ → ℕ → Sent → Answer → Refusal → List ℕ
+abbrev pub half_reply : List ℕ → ℕ → SubmittedForm → Answer → Refusal → List ℕ
 half_reply caller at sent answer refusal =
     with_page (code_of_refusal refusal) (page_bytes (half_form caller at sent answer refusal))

@@ -37,17 +37,17 @@ use Rattle.message_core.specs.declared.request.Request.{Request}
 use Rattle.page_routes.specs.declared.fault.PageFault.{PageFault}
 use Rattle.page_routes.specs.declared.page.Page as routes
 use Rattle.page_routes.specs.declared.page.Page.TheVariants as page
-use Rattle.page_routes.specs.declared.visit.Visit.{Visit}
-use Rattle.page_routes.specs.declared.visit.Visit.TheVariants as visit
+use Rattle.page_routes.specs.declared.visit.PageRequest.{PageRequest}
+use Rattle.page_routes.specs.declared.visit.PageRequest.TheVariants as visit
 use Rattle.page_routes.specs.Places.{is_page_path, path_in}
 use Rattle.page_routes.specs.Visits.{visit_of}
 use Rattle.service_core.specs.Dossiers.{IsDossier}
 use Rattle.service_core.specs.Finding.{FindsOn}
 use Rattle.service_core.specs.Leaves.{LeavesDesk}
 use Rattle.service_core.specs.Seen.{settings_of, tables_of}
-use Rattle.service_core.specs.TableSteps.{IsStep, LeadsOn, ask_by}
+use Rattle.service_core.specs.TableSteps.{IsStep, OverTables, ask_by}
 use Rattle.service_core.specs.declared.desk.Desk as service
-use Rattle.store_tables.specs.Calls.{Spares}
+use Rattle.store_tables.specs.Calls.{LeavesTables}
 use Rattle.wire_core.specs.Replies.{TellsFault, is_head}
 use Rattle.wire_core.specs.Runs.{Sent}
 use Rattle.wire_core.specs.Steps.{LeavesOut, MessageSteps, StaysOn}
@@ -141,34 +141,34 @@ LookSteps settings at caller (page.New queue) =
     Does settings (ask_by at caller command.Queues) (replies.new_reply settings queue caller at)
 LookSteps settings at caller (page.Request id) = LooksAt settings at caller id
 LookSteps settings at caller page.Overdue =
-    Does settings (ask_by at caller command.Overdue) (replies.overdue_reply caller at)
+    FindSteps settings at caller replies.late_query First
 LookSteps settings at caller page.Workload =
     Does settings (ask_by at caller command.Workload) (replies.workload_reply caller at)
 
 -- ---- a message
 
 -- the desk is asked for nothing
-abbrev pub Stays : Visit → Desk → List ℕ → Desk → Type 0
+abbrev pub Stays : PageRequest → Desk → List ℕ → Desk → Type 0
 Stays visit old bytes new = IsFixed visit bytes × (new ≡ old)
 
 -- what a visit asks of the desk
-abbrev pub AsksAt : Settings → ℕ → Visit → Desk → List ℕ → Desk → Type 0
+abbrev pub AsksAt : Settings → ℕ → PageRequest → Desk → List ℕ → Desk → Type 0
 AsksAt settings at (visit.Look caller page) = LookSteps settings at caller page
 AsksAt settings at (visit.Act caller command sent) = FormSteps settings at caller command sent
 AsksAt settings at other = Stays other
 
 -- a moment that no clock of the desk can show has no page, and the desk is asked for nothing
-abbrev pub VisitSteps : Settings → ℕ → Visit → Desk → List ℕ → Desk → Type 0
+abbrev pub VisitSteps : Settings → ℕ → PageRequest → Desk → List ℕ → Desk → Type 0
 VisitSteps settings at visit old bytes new =
     By (is_due_moment at) (AsksAt settings at visit old bytes new) (Stays visit old bytes new)
 
 -- its reply is told, or its head alone
-abbrev pub ToldSteps : Settings → ℕ → Bool → Visit → Desk → List ℕ → Desk → Type 0
+abbrev pub ToldSteps : Settings → ℕ → Bool → PageRequest → Desk → List ℕ → Desk → Type 0
 ToldSteps settings at head_only visit old bytes new =
     (whole : List ℕ) × VisitSteps settings at visit old whole new × (bytes ≡ told_of head_only whole)
 
 -- a message at a place of the pages: its visit, or its first fault
-abbrev pub PageSteps : Settings → ℕ → Bool → Result Visit PageFault → Desk → List ℕ → Desk → Type 0
+abbrev pub PageSteps : Settings → ℕ → Bool → Result PageRequest PageFault → Desk → List ℕ → Desk → Type 0
 PageSteps settings at head_only (Ok visit) = ToldSteps settings at head_only visit
 PageSteps settings at head_only (Err fault) = Tells (fault_reply head_only fault)
 
@@ -209,17 +209,17 @@ IsAnswerTo settings sent old bytes new =
 
 abbrev pub DoesOn : Settings → Ask → (Outcome → List ℕ) → List ℕ → State → State → Type 0
 DoesOn settings ask reply bytes =
-    LeadsOn settings (λ desk after. Does settings ask reply desk bytes after)
+    OverTables settings (λ desk after. Does settings ask reply desk bytes after)
 
 abbrev pub LookStepsOn : Settings → ℕ → List ℕ → routes.Page → List ℕ → State → State → Type 0
 LookStepsOn settings at caller page bytes =
-    LeadsOn settings (λ desk after. LookSteps settings at caller page desk bytes after)
+    OverTables settings (λ desk after. LookSteps settings at caller page desk bytes after)
 
 -- how the reading for a page ends: with the reply of these steps, or out of memory with the desk as
 -- it was
 pub record LookedBy {S A E : Type 0} (g : Ghosts S) (old new : service.Desk S g)
     (LeadsTo : Desk → List ℕ → Desk → Type 0) (result : Result (Vec ℕ A) E) : Type 0 where
-  pub ok : IfOk result (λ out. LeadsOn (settings_of g old)
+  pub ok : IfOk result (λ out. OverTables (settings_of g old)
       (λ desk after. LeadsTo desk out.items after) (tables_of g old) (tables_of g new))
   pub err : OnErr result (StaysOn (settings_of g old) (tables_of g old) (tables_of g new))
   pub left : LeavesDesk g old new
@@ -235,29 +235,29 @@ pub record Sought {S : Type 0} (g : Ghosts S) (old new : service.Desk S g) (at :
     (result : Result Findings Refusal) : Type 0 where
   pub found : FindsOn (settings_of g old) at caller search limit after result (tables_of g old)
       (tables_of g new)
-  pub kept : Spares (tables_of g old) (tables_of g new)
+  pub kept : LeavesTables (tables_of g old) (tables_of g new)
   pub same : settings_of g new ≡ settings_of g old
 
 abbrev pub AskedStepsOn : Settings → ℕ → Request → List ℕ → State → State → Type 0
 AskedStepsOn settings at request bytes =
-    LeadsOn settings (λ desk after. AskedSteps settings at request desk bytes after)
+    OverTables settings (λ desk after. AskedSteps settings at request desk bytes after)
 
 abbrev pub RequestStepsOn : Settings → ℕ → Request → List ℕ → State → State → Type 0
 RequestStepsOn settings at request bytes =
-    LeadsOn settings (λ desk after. RequestSteps settings at request desk bytes after)
+    OverTables settings (λ desk after. RequestSteps settings at request desk bytes after)
 
-abbrev pub VisitStepsOn : Settings → ℕ → Visit → List ℕ → State → State → Type 0
+abbrev pub VisitStepsOn : Settings → ℕ → PageRequest → List ℕ → State → State → Type 0
 VisitStepsOn settings at visit bytes =
-    LeadsOn settings (λ desk after. VisitSteps settings at visit desk bytes after)
+    OverTables settings (λ desk after. VisitSteps settings at visit desk bytes after)
 
-abbrev pub ToldStepsOn : Settings → ℕ → Bool → Visit → List ℕ → State → State → Type 0
+abbrev pub ToldStepsOn : Settings → ℕ → Bool → PageRequest → List ℕ → State → State → Type 0
 ToldStepsOn settings at head_only visit bytes =
-    LeadsOn settings (λ desk after. ToldSteps settings at head_only visit desk bytes after)
+    OverTables settings (λ desk after. ToldSteps settings at head_only visit desk bytes after)
 
 abbrev pub SentStepsOn : Settings → ℕ → Result Request WireFault → List ℕ → State → State → Type 0
 SentStepsOn settings at read bytes =
-    LeadsOn settings (λ desk after. SentSteps settings at read desk bytes after)
+    OverTables settings (λ desk after. SentSteps settings at read desk bytes after)
 
 abbrev pub IsAnsweredOn : Settings → Sent → List ℕ → State → State → Type 0
 IsAnsweredOn settings sent bytes =
-    LeadsOn settings (λ desk after. IsAnswerTo settings sent desk bytes after)
+    OverTables settings (λ desk after. IsAnswerTo settings sent desk bytes after)

@@ -7,8 +7,8 @@ use Rattle.page_reply.specs.declared.reply.CookieChange.TheVariants.{Keep, Forge
 use Rattle.page_routes.specs.Paths.{path_of}
 use Rattle.page_routes.specs.declared.page.Page.{Page}
 use Rattle.page_routes.specs.declared.page.Page.TheVariants.{Home, Request}
-use Rattle.page_routes.specs.declared.visit.Visit.{Visit}
-use Rattle.page_routes.specs.declared.visit.Visit.TheVariants as visit
+use Rattle.page_routes.specs.declared.visit.PageRequest.{PageRequest}
+use Rattle.page_routes.specs.declared.visit.PageRequest.TheVariants as visit
 use Rattle.page_wire.specs.Faults.{clock_reply}
 use Rattle.page_wire.specs.Replies.{cookie_for, leads_to, sign_in}
 
@@ -27,7 +27,7 @@ IsSheet bytes =
     (sheet : List ℕ) × (list_all is_plain sheet ≡ true) × (bytes ≡ sheet_bytes sheet)
 
 -- a page and a form have the last one where no page can tell their moment
-abbrev pub IsFixed : Visit → List ℕ → Type 0
+abbrev pub IsFixed : PageRequest → List ℕ → Type 0
 IsFixed visit.Style bytes = IsSheet bytes
 IsFixed visit.SignIn bytes = bytes ≡ sign_in 200 Home false false
 IsFixed (visit.SignedIn cookie keep next) bytes = bytes ≡ signed_in cookie keep next

@@ -5,7 +5,7 @@ ghost use Rattle.page_routes.specs.Places.{path_in};
 ghost use Rattle.message_core.specs.Reply.{bytes_of, unavailable};
 ghost use Rattle.service_core.specs.Seen.{settings_of, tables_of};
 ghost use Rattle.sqlite.specs.State.{HasCleanDisk};
-ghost use Rattle.store_tables.specs.Calls.{Spares};
+ghost use Rattle.store_tables.specs.Calls.{LeavesTables};
 ghost use Rattle.page_wire.specs.Health as form;
 ghost use Rattle.page_wire.specs.Health.{TellsHealth};
 
@@ -41,7 +41,7 @@ pub(crate) fn answer_health<S: Backend>(
     ensures shut { HasCleanDisk (tables_of S.Store desk.new)
         → (tables_of S.Store desk.old).is_open ≡ false
         → IfOk result (λ out. out.items ≡ bytes_of (unavailable head_only)) }
-    ensures kept { Spares (tables_of S.Store desk.old) (tables_of S.Store desk.new) }
+    ensures kept { LeavesTables (tables_of S.Store desk.old) (tables_of S.Store desk.new) }
     ensures same { settings_of S.Store desk.new ≡ settings_of S.Store desk.old }
 {
     let is_there = is_there(desk);
@@ -52,7 +52,7 @@ pub(crate) fn answer_health<S: Backend>(
 fn is_there<S: Backend>(desk: &mut Desk<S>) -> bool
     ensures shut { HasCleanDisk (tables_of S.Store desk.new)
         → (tables_of S.Store desk.old).is_open ≡ false → result ≡ false }
-    ensures kept { Spares (tables_of S.Store desk.old) (tables_of S.Store desk.new) }
+    ensures kept { LeavesTables (tables_of S.Store desk.old) (tables_of S.Store desk.new) }
     ensures same { settings_of S.Store desk.new ≡ settings_of S.Store desk.old }
 {
     match desk.is_open() {

@@ -8,17 +8,17 @@
 //! the reply says what was done and what wasn't.
 #![tactic(auto)]
 
-mod act;
 mod faults;
+mod follow_up;
 mod head_only;
 mod health;
-mod led;
-mod look;
 mod next;
 mod pages;
+mod redirect;
+mod render;
 mod replies;
-mod second;
 mod serve;
+mod submit;
 mod visits;
 
 pub use serve::{answer_sent, read_sent};

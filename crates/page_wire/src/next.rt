@@ -4,24 +4,24 @@ ghost use Rattle.std.specs.Option.{option_and_then};
 ghost use Rattle.page_wire.specs.Next as form;
 
 use desk_core::{Answer, Command};
-use page_routes::Sent;
+use page_routes::SubmittedForm;
 use std::alloc::{AllocError, Global};
 use text_core::Text;
 
 /// A copy of what the second command takes, if there is one: the first text of a new request, unless
 /// it is blank, and the status that was chosen with a reply.
-pub(crate) fn next_text(alloc: Global, sent: &Sent) -> Result<Option<Text>, AllocError>
+pub(crate) fn next_text(alloc: Global, sent: &SubmittedForm) -> Result<Option<Text>, AllocError>
     ensures { IfOk result (λ text. text ≡ form.next_text sent.now) }
 {
     match sent {
-        Sent::New { text, .. } => {
+        SubmittedForm::New { text, .. } => {
             if is_blank(text.as_str()) {
                 Ok(None)
             } else {
                 Ok(Some(Text::new(alloc, text.as_str())?))
             }
         }
-        Sent::Reply { status, .. } => copied(alloc, status),
+        SubmittedForm::Reply { status, .. } => copied(alloc, status),
         _ => Ok(None),
     }
 }
@@ -49,7 +49,11 @@ fn is_space(byte: u8) -> bool
 }
 
 /// The second command, after this answer to the first.
-pub(crate) fn next_command(sent: &Sent, answer: &Answer, text: Option<Text>) -> Option<Command>
+pub(crate) fn follow_up_command(
+    sent: &SubmittedForm,
+    answer: &Answer,
+    text: Option<Text>,
+) -> Option<Command>
     ensures { result ≡ option_and_then (form.with_text sent.now answer.now) text }
 {
     match text {
@@ -58,12 +62,12 @@ pub(crate) fn next_command(sent: &Sent, answer: &Answer, text: Option<Text>) -> 
     }
 }
 
-fn with_text(sent: &Sent, answer: &Answer, text: Text) -> Option<Command>
+fn with_text(sent: &SubmittedForm, answer: &Answer, text: Text) -> Option<Command>
     ensures { result ≡ form.with_text sent.now answer.now text }
 {
     match (sent, answer) {
-        (Sent::New { .. }, Answer::Created(id)) => Some(Command::Reply { id: *id, text }),
-        (Sent::Reply { id, .. }, _) => Some(Command::SetStatus {
+        (SubmittedForm::New { .. }, Answer::Created(id)) => Some(Command::Reply { id: *id, text }),
+        (SubmittedForm::Reply { id, .. }, _) => Some(Command::SetStatus {
             id: *id,
             status: text,
         }),

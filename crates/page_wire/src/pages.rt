@@ -8,9 +8,7 @@ ghost use Rattle.page_wire.specs.Replies as form;
 
 use crate::replies::{refused, with_page};
 use desk_core::{Answer, Dossier, QueueRow, Refusal};
-use desk_pages::{
-    find_fault_page, find_page, home_page, new_page, overdue_page, request_page, workload_page,
-};
+use desk_pages::{find_fault_page, find_page, home_page, new_page, request_page, workload_page};
 use find_core::{Findings, Order, QueueLoad};
 use find_form::{FindFault, FindForm, Start, found_page};
 use hours_core::Minute;
@@ -203,26 +201,6 @@ fn asks(
             lifecycle.parts().create.as_slice(),
         ),
         None => new_page(alloc, queue, caller, moment, "", &[]),
-    }
-}
-
-/// The page of what is late.
-pub(crate) fn overdue_reply(
-    alloc: Global,
-    caller: &str,
-    moment: Minute,
-    outcome: &Outcome,
-) -> Result<Vec<u8>, AllocError>
-    ensures { IfOk result (λ out. out.items
-        ≡ form.overdue_reply caller.now moment outcome.now) }
-{
-    match outcome {
-        Ok(Answer::Late(lines)) => {
-            let page = overdue_page(alloc, caller, moment, lines.as_slice())?;
-            with_page(alloc, 200, page)
-        }
-        Ok(_) => no_answer(alloc, caller, moment),
-        Err(refusal) => refused(alloc, caller, moment, refusal),
     }
 }
 

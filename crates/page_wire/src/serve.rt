@@ -4,7 +4,7 @@ ghost use Rattle.std.specs.Vec.{vec_capacity};
 ghost use Rattle.message_core.specs.Reply.{bytes_of, unavailable};
 ghost use Rattle.service_core.specs.Leaves.{LeavesDesk};
 ghost use Rattle.service_core.specs.Seen.{settings_of, tables_of};
-ghost use Rattle.store_tables.specs.Calls.{Spares};
+ghost use Rattle.store_tables.specs.Calls.{LeavesTables};
 ghost use Rattle.page_wire.specs.Faults as form;
 ghost use Rattle.page_wire.specs.Steps.{AskedStepsOn, IsReadOf, RequestStepsOn, SentStepsOn, ToldStepsOn};
 ghost use Rattle.wire_core.specs.Steps.{StaysOn};
@@ -12,10 +12,10 @@ ghost use Rattle.wire_core.specs.Steps.{StaysOn};
 use crate::faults::fault_reply;
 use crate::head_only::tell;
 use crate::health::{answer_health, asks_health};
-use crate::led::ROOM;
+use crate::redirect::ROOM;
 use crate::visits::make_visit;
 use message_core::{BodyLimit, Request, WireFault, read_request_counted, unavailable_reply};
-use page_routes::{PageFault, Visit, is_page_place, visit_of};
+use page_routes::{PageFault, PageRequest, is_page_place, visit_of};
 use service_core::Desk;
 use std::alloc::{AllocError, Global};
 use store_core::Backend;
@@ -71,7 +71,7 @@ pub fn answer_sent<S: Backend>(
 ) -> Result<Vec<u8>, AllocError>
     ensures reply { IfOk result (λ out. SentStepsOn (settings_of S.Store desk.old) moment read.now
         out.items (tables_of S.Store desk.old) (tables_of S.Store desk.new)) }
-    ensures err { OnErr result (Spares (tables_of S.Store desk.old) (tables_of S.Store desk.new)) }
+    ensures err { OnErr result (LeavesTables (tables_of S.Store desk.old) (tables_of S.Store desk.new)) }
     ensures left { LeavesDesk S.Store desk.old desk.new }
 {
     match read {
@@ -91,7 +91,7 @@ fn answer_read<S: Backend>(
 ) -> Result<Vec<u8>, AllocError>
     ensures reply { IfOk result (λ out. SentStepsOn (settings_of S.Store desk.old) moment
         (Ok request.now) out.items (tables_of S.Store desk.old) (tables_of S.Store desk.new)) }
-    ensures err { OnErr result (Spares (tables_of S.Store desk.old) (tables_of S.Store desk.new)) }
+    ensures err { OnErr result (LeavesTables (tables_of S.Store desk.old) (tables_of S.Store desk.new)) }
     ensures left { LeavesDesk S.Store desk.old desk.new }
 {
     if asks_health(&request.message) {
@@ -189,7 +189,7 @@ fn reply_to<S: Backend>(
 fn tell_visit<S: Backend>(
     alloc: Global,
     head_only: bool,
-    visit: &Visit,
+    visit: &PageRequest,
     at: u32,
     desk: &mut Desk<S>,
     room: &mut Vec<u8>,

@@ -7,15 +7,15 @@ ghost use Rattle.page_wire.specs.Steps.{VisitStepsOn};
 ghost use Rattle.page_wire.specs.Visits as form;
 ghost use Rattle.wire_core.specs.Steps.{StaysOn};
 
-use crate::act::act;
 use crate::faults::clock_reply;
-use crate::look::look;
+use crate::render::render_page;
 use crate::replies::{cookie_for, leads_to, sign_in};
+use crate::submit::submit_form;
 use desk_core::Command;
 use desk_style::style_sheet;
 use hours_core::Minute;
 use page_reply::{CookieChange, sheet_reply};
-use page_routes::{Page, Sent, Visit, page_path};
+use page_routes::{Page, PageRequest, SubmittedForm, page_path};
 use service_core::Desk;
 use std::alloc::{AllocError, Global};
 use store_core::Backend;
@@ -26,7 +26,7 @@ use text_core::Text;
 #[tactic(auto, using(service_core::proofs::LeftLemmas::left_same))]
 pub(crate) fn make_visit<S: Backend>(
     alloc: Global,
-    visit: &Visit,
+    visit: &PageRequest,
     at: u32,
     desk: &mut Desk<S>,
     room: &mut Vec<u8>,
@@ -40,18 +40,18 @@ pub(crate) fn make_visit<S: Backend>(
     ensures left { LeavesDesk S.Store desk.old desk.new }
 {
     match (visit, Minute::new(at)) {
-        (Visit::Look { caller, page }, Some(moment)) => {
-            let made = look(alloc, caller.as_str(), page, moment, desk);
+        (PageRequest::Look { caller, page }, Some(moment)) => {
+            let made = render_page(alloc, caller.as_str(), page, moment, desk);
             put(made, room)
         }
         (
-            Visit::Act {
+            PageRequest::Act {
                 caller,
                 command,
                 sent,
             },
             Some(moment),
-        ) => act(alloc, caller.as_str(), command, sent, moment, desk, room),
+        ) => submit_form(alloc, caller.as_str(), command, sent, moment, desk, room),
         _ => put(fixed(alloc, visit), room),
     }
 }
@@ -72,19 +72,21 @@ fn put(made: Result<Vec<u8>, AllocError>, room: &mut Vec<u8>) -> Result<(), Allo
 
 /// The reply to a visit where the desk is asked for nothing: a page and a form have it where their
 /// moment is none of the desk's.
-fn fixed(alloc: Global, visit: &Visit) -> Result<Vec<u8>, AllocError>
+fn fixed(alloc: Global, visit: &PageRequest) -> Result<Vec<u8>, AllocError>
     ensures { IfOk result (λ out. form.IsFixed visit.now out.items) }
 {
     match visit {
-        Visit::Style => sheet_reply(alloc, style_sheet().as_bytes()),
-        Visit::SignIn => sign_in(alloc, 200, &Page::Home, false, false),
-        Visit::SignedIn { cookie, keep, next } => signed_in(alloc, cookie, *keep, next),
-        Visit::NotSignedIn { next } => sign_in(alloc, 403, next, true, false),
-        Visit::SignOut => signed_out(alloc),
-        Visit::Leads(next) => leads_on(alloc, next),
-        Visit::Unknown { next, to_get } => sign_in(alloc, 403, next, false, *to_get),
-        Visit::Go { id } => leads_on(alloc, &Page::Request(*id)),
-        Visit::NoMoment | Visit::Look { .. } | Visit::Act { .. } => clock_reply(alloc),
+        PageRequest::Style => sheet_reply(alloc, style_sheet().as_bytes()),
+        PageRequest::SignIn => sign_in(alloc, 200, &Page::Home, false, false),
+        PageRequest::SignedIn { cookie, keep, next } => signed_in(alloc, cookie, *keep, next),
+        PageRequest::NotSignedIn { next } => sign_in(alloc, 403, next, true, false),
+        PageRequest::SignOut => signed_out(alloc),
+        PageRequest::Leads(next) => leads_on(alloc, next),
+        PageRequest::Unknown { next, to_get } => sign_in(alloc, 403, next, false, *to_get),
+        PageRequest::Go { id } => leads_on(alloc, &Page::Request(*id)),
+        PageRequest::NoMoment | PageRequest::Look { .. } | PageRequest::Act { .. } => clock_reply(
+            alloc,
+        ),
     }
 }
 

@@ -8,7 +8,7 @@ use log_core::{put_line, stamp_of};
 use mio::event::Event;
 use mio::net::{TcpListener, TcpStream};
 use mio::{Events, Interest, Poll, Token};
-use server_core::{Host, Mark, NetFault};
+use server_core::{Host, NetFault, Readiness};
 use std::alloc::{AllocError, Global};
 use std::io;
 use std::io::{ErrorKind, Read, Write};
@@ -108,7 +108,7 @@ fn watch(poll: &Poll, stream: TcpStream, place: usize) -> Result<Option<TcpStrea
 }
 
 /// Marks what streams became ready for. Whether a connection may wait.
-fn mark_all(events: &Events, marks: &mut [Mark]) -> bool {
+fn mark_all(events: &Events, marks: &mut [Readiness]) -> bool {
     let mut waiting = false;
     for event in events {
         let Token(place) = event.token();
@@ -121,7 +121,7 @@ fn mark_all(events: &Events, marks: &mut [Mark]) -> bool {
     waiting
 }
 
-fn mark_one(event: &Event, mark: &mut Mark) {
+fn mark_one(event: &Event, mark: &mut Readiness) {
     if event.is_readable() || event.is_read_closed() || event.is_error() {
         mark.readable = true;
     }
@@ -174,7 +174,7 @@ impl<R: Net + Clock + Print> Host for PollHost<'_, R> {
         self.micros() / 1000
     }
 
-    fn wait(&mut self, milliseconds: u64, marks: &mut [Mark]) -> Result<bool, NetFault> {
+    fn wait(&mut self, milliseconds: u64, marks: &mut [Readiness]) -> Result<bool, NetFault> {
         let timeout = Duration::from_millis(milliseconds);
         match self.poll.poll(&mut self.events, Some(timeout)) {
             Ok(()) => Ok(mark_all(&self.events, marks)),

@@ -13,7 +13,7 @@ use text_core::Text;
 /// Under each name the places of the groups that list it.
 pub(crate) type Listers = HashMap<String, Vec<usize>>;
 
-pub(crate) fn listers_of(alloc: Global, groups: &[Group]) -> Result<Listers, AllocError>
+pub(crate) fn groups_listing(alloc: Global, groups: &[Group]) -> Result<Listers, AllocError>
     ensures { IfOk result (words.IsListers groups.now) }
 {
     let mut listers: Listers = HashMap::new(alloc);

@@ -3,8 +3,8 @@
 ghost use Rattle.std.specs.Prelude.{IfOk};
 ghost use Rattle.rights_core.specs.Index.{IsMemberships};
 
-use crate::listers::listers_of;
-use crate::outer::outer_of;
+use crate::listers::groups_listing;
+use crate::outer::enclosing_groups;
 use crate::parts::Group;
 use std::alloc::{AllocError, Global};
 use std::collections::BTreeMap;
@@ -21,13 +21,13 @@ pub(crate) fn memberships(
 ) -> Result<Memberships, AllocError>
     ensures { IfOk result (λ m. IsMemberships persons.now groups.now m) }
 {
-    let listers = listers_of(alloc, groups)?;
+    let listers = groups_listing(alloc, groups)?;
     let mut marks = vec![in alloc; 0usize; groups.len()]?;
     let marks = marks.as_mut_slice();
     let mut kept: Memberships = BTreeMap::new(alloc);
     for (earlier, person) in persons.iter().enumerate() {
         let person = person.as_str();
-        let around = outer_of(alloc, groups, &listers, marks, earlier + 1, person)?;
+        let around = enclosing_groups(alloc, groups, &listers, marks, earlier + 1, person)?;
         kept.insert(String::from_str(alloc, person)?, around)?;
     }
     Ok(kept)

@@ -11,7 +11,7 @@ use crate::places::name_at;
 use std::alloc::{AllocError, Global};
 
 /// The places, in order, of the groups from which a chain leads to the person.
-pub(crate) fn outer_of(
+pub(crate) fn enclosing_groups(
     alloc: Global,
     groups: &[Group],
     listers: &Listers,

@@ -26,7 +26,7 @@ use Rattle.route_core.specs.Members.{has_only, members_of, number_at, text_or_no
 use Rattle.route_core.specs.Members.{text_at}
 use Rattle.route_core.specs.Places.{behind, bound_at, bound_to, ended, method_named}
 use Rattle.route_core.specs.Rows.{apart}
-use Rattle.route_core.specs.Said.{said_by}
+use Rattle.route_core.specs.JsonArguments.{said_by}
 use Rattle.route_core.specs.declared.fault.CommandFault.TheVariants as fault
 use Rattle.route_core.specs.declared.fault.Unasked.TheVariants.{NoRoute, BadMethod, NoToken}
 use Rattle.route_core.specs.declared.fault.Unasked.TheVariants.{BadBody}

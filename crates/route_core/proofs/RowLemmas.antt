@@ -11,7 +11,7 @@ use Rattle.std.proofs.lemmas.Bool.{and_parts, false≢true}
 use Rattle.std.proofs.lemmas.List.{get_or-map, length-map}
 use Rattle.std.proofs.lemmas.Slice.Eq.{bytes_eq-Decides}
 use Rattle.desk_forms.specs.Paths.{path_of}
-use Rattle.desk_forms.specs.Paths.{Bound, Nothing, Part, Row, id, lit, queue}
+use Rattle.desk_forms.specs.Paths.{PathParameter, Nothing, Part, Row, id, lit, queue}
 use Rattle.desk_forms.specs.Table.{paths}
 use Rattle.desk_forms.specs.declared.paths.Path.{Path as InCode}
 use Rattle.desk_forms.specs.declared.paths.Method.{Method}
@@ -33,7 +33,7 @@ opposite true is = absurd cc
 opposite false is = refl
 
 -- two texts that differ don't both stand there
-clash : (p q : Part) (t : List ℕ) (b c x y : Bound) → differs p q ≡ true
+clash : (p q : Part) (t : List ℕ) (b c x y : PathParameter) → differs p q ≡ true
     → bound_to q t c ≡ Some y → bound_to p t b ≡ Some x → false ≡ true
 clash (lit s) (lit u) t b c x y differ there here =
     let is_u : t ≡ u = (bytes_eq-Decides t u).0 (if_some (bytes_eq t u) c y there) in
@@ -44,15 +44,15 @@ clash (lit s) id t b c x y differ there here = absurd cc
 clash queue q t b c x y differ there here = absurd cc
 clash id q t b c x y differ there here = absurd cc
 
-abbrev after : List Part → Option (List ℕ) → Option Bound → Option Bound
+abbrev after : List Part → Option (List ℕ) → Option PathParameter → Option PathParameter
 after parts rest named =
-    option_and_then (bound_by parts) (option_map (λ (next : Bound). (rest, next)) named)
+    option_and_then (bound_by parts) (option_map (λ (next : PathParameter). (rest, next)) named)
 
 -- by what both parts name of a text
-one_part : (p q : Part) (ps qs : List Part) (t : List ℕ) (rest : Option (List ℕ)) (b c x : Bound)
-    (o r : Option Bound) (far : Bool) → bound_to q t c ≡ o → bound_to p t b ≡ r
+one_part : (p q : Part) (ps qs : List Part) (t : List ℕ) (rest : Option (List ℕ)) (b c x : PathParameter)
+    (o r : Option PathParameter) (far : Bool) → bound_to q t c ≡ o → bound_to p t b ≡ r
     → differs p q ≡ far → (far || apart ps qs) ≡ true
-    → (apart ps qs ≡ true → (d e : Bound) → bound_by qs (rest, d) ≡ Some x
+    → (apart ps qs ≡ true → (d e : PathParameter) → bound_by qs (rest, d) ≡ Some x
     → bound_by ps (rest, e) ≡ None)
     → after qs rest o ≡ Some x → after ps rest r ≡ None
 one_part p q ps qs t rest b c x None r far there here differ either later is = absurd cc
@@ -62,9 +62,9 @@ one_part p q ps qs t rest b c x (Some y) (Some z) true there here differ either 
 one_part p q ps qs t rest b c x (Some y) (Some z) false there here differ either later is =
     later either y z is
 
-by_text : (p q : Part) (ps qs : List Part) (text rest : Option (List ℕ)) (b c x : Bound)
+by_text : (p q : Part) (ps qs : List Part) (text rest : Option (List ℕ)) (b c x : PathParameter)
     → (differs p q || apart ps qs) ≡ true
-    → (apart ps qs ≡ true → (d e : Bound) → bound_by qs (rest, d) ≡ Some x
+    → (apart ps qs ≡ true → (d e : PathParameter) → bound_by qs (rest, d) ≡ Some x
     → bound_by ps (rest, e) ≡ None)
     → after qs rest (bound_if_text q text c) ≡ Some x
     → after ps rest (bound_if_text p text b) ≡ None
@@ -73,7 +73,7 @@ by_text p q ps qs (Some t) rest b c x either later is =
     one_part p q ps qs t rest b c x (bound_to q t c) (bound_to p t b) (differs p q) refl refl refl
     either later is
 
-none_of_both : (ps qs : List Part) (left : Option (List ℕ)) (b c x : Bound) → apart ps qs ≡ true
+none_of_both : (ps qs : List Part) (left : Option (List ℕ)) (b c x : PathParameter) → apart ps qs ≡ true
     → bound_by qs (left, c) ≡ Some x → bound_by ps (left, b) ≡ None
 none_of_both [] [] left b c x far is = absurd cc
 none_of_both [] (q ∷ qs) None b c x far is = absurd cc
@@ -88,21 +88,21 @@ none_of_both (p ∷ ps) (q ∷ qs) (Some path) b c x far is =
 
 -- ---- paths
 
-by_slash : (ps qs : List Part) (path : List ℕ) (x : Bound) (slash : Bool) → apart ps qs ≡ true
+by_slash : (ps qs : List Part) (path : List ℕ) (x : PathParameter) (slash : Bool) → apart ps qs ≡ true
     → (if slash then bound_by qs (Some path, Nothing) else None) ≡ Some x
     → (if slash then bound_by ps (Some path, Nothing) else None) ≡ None
 by_slash ps qs path x true far is = none_of_both ps qs (Some path) Nothing Nothing x far is
 by_slash ps qs path x false far is = refl
 
-none_at : (ps qs : List Part) (path : List ℕ) (x : Bound) → apart ps qs ≡ true
+none_at : (ps qs : List Part) (path : List ℕ) (x : PathParameter) → apart ps qs ≡ true
     → bound_at qs path ≡ Some x → bound_at ps path ≡ None
 none_at ps qs [] x far is = refl
 none_at ps qs (b ∷ path) x far is = by_slash ps qs path x (b == 47) far is
 
 -- ---- rows
 
-named : (row : Row) (o : Option Bound) (place : Place) → option_map (at row) o ≡ Some place
-    → (x : Bound) × (o ≡ Some x)
+named : (row : Row) (o : Option PathParameter) (place : Place) → option_map (at row) o ≡ Some place
+    → (x : PathParameter) × (o ≡ Some x)
 named row None place is = absurd cc
 named row (Some x) place is = (x, refl)
 

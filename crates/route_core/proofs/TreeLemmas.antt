@@ -9,10 +9,10 @@ use Rattle.serde_json.specs.View.{members_view}
 use Rattle.serde_json.specs.declared.value.Value.{Value}
 use Rattle.desk_forms.specs.Keys.{is_key}
 use Rattle.desk_forms.specs.Kinds.{Argument}
-use Rattle.desk_forms.specs.Paths.{Bound}
+use Rattle.desk_forms.specs.Paths.{PathParameter}
 use Rattle.route_core.specs.Members.{has_only, text_or_null}
 
-pub only_these : (b : Bound) (args : List Argument) (es : List (String Global × Value))
+pub only_these : (b : PathParameter) (args : List Argument) (es : List (String Global × Value))
     → list_all (λ key. is_key b args (string_bytes key)) (keys_of es)
     ≡ has_only b args (members_view es)
 only_these b args [] = refl

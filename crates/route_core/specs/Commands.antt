@@ -16,7 +16,7 @@ use Rattle.route_core.specs.Cuts.{cut}
 use Rattle.route_core.specs.Fault.{fault_of}
 use Rattle.route_core.specs.Members.{members_of}
 use Rattle.route_core.specs.Places.{Place, method_named, place_at}
-use Rattle.route_core.specs.Said.{said_by}
+use Rattle.route_core.specs.JsonArguments.{said_by}
 use Rattle.route_core.specs.declared.fault.CommandFault.{CommandFault}
 use Rattle.route_core.specs.declared.fault.Unasked.{Unasked}
 use Rattle.route_core.specs.declared.fault.Unasked.TheVariants.{NoRoute, BadMethod, NoToken}

@@ -4,4 +4,4 @@ pub mod Fault
 pub mod Members
 pub mod Places
 pub mod Rows
-pub mod Said
+pub mod JsonArguments

@@ -8,7 +8,7 @@ use Rattle.serde_json.specs.Find.{as_number, as_object, as_str, as_u64, get_memb
 use Rattle.serde_json.specs.Read.{read}
 use Rattle.desk_forms.specs.Keys.{is_key}
 use Rattle.desk_forms.specs.Kinds.{Argument}
-use Rattle.desk_forms.specs.Paths.{Bound}
+use Rattle.desk_forms.specs.Paths.{PathParameter}
 
 -- the members of the object that a text is, if it is one
 abbrev pub members_of_text : List ℕ → Option Members
@@ -20,7 +20,7 @@ members_of [] = Some no_members
 members_of (b ∷ bs) = members_of_text (b ∷ bs)
 
 -- each key is that of an argument that is posted
-abbrev pub has_only : Bound → List Argument → Members → Bool
+abbrev pub has_only : PathParameter → List Argument → Members → Bool
 has_only b args no_members = true
 has_only b args (member key value rest) = is_key b args key && has_only b args rest
 

@@ -5,9 +5,9 @@ use Rattle.std.specs.Borrow.{Bor}
 use Rattle.std.specs.Option.{option_and_then, option_map, option_or}
 use Rattle.std.specs.Str.{bytes_eq}
 use Rattle.desk_forms.specs.Number.{number_of}
-use Rattle.desk_forms.specs.Paths.{Bound, InQueue, Nothing, OnRequest, Part, Row, bound_of, id, lit}
+use Rattle.desk_forms.specs.Paths.{PathParameter, InQueue, Nothing, OnRequest, Part, Row, bound_of, id, lit}
 use Rattle.desk_forms.specs.Paths.{queue}
-use Rattle.desk_forms.specs.declared.paths.Bound.{Bound as BoundInCode}
+use Rattle.desk_forms.specs.declared.paths.PathParameter.{PathParameter as BoundInCode}
 use Rattle.desk_forms.specs.declared.paths.Method.{Method}
 use Rattle.desk_forms.specs.declared.paths.Method.TheVariants.{Get, Post}
 use Rattle.desk_forms.specs.declared.table.Form.{Form}
@@ -17,18 +17,18 @@ use Rattle.route_core.specs.declared.places.Place.{Place as PlaceInCode}
 -- ---- a path laid against parts
 
 -- what the parts name so far, with this text at a part, if it may stand there
-abbrev pub bound_to : Part → List ℕ → Bound → Option Bound
+abbrev pub bound_to : Part → List ℕ → PathParameter → Option PathParameter
 bound_to (lit here) text b = if bytes_eq text here then Some b else None
 bound_to queue text b = if length text == 0 then None else Some (InQueue text)
 bound_to id text b = option_map OnRequest (number_of text)
 
-abbrev pub bound_if_text : Part → Option (List ℕ) → Bound → Option Bound
+abbrev pub bound_if_text : Part → Option (List ℕ) → PathParameter → Option PathParameter
 bound_if_text part None b = None
 bound_if_text part (Some text) b = bound_to part text b
 
 -- what is left of a path, if anything, and what its parts have named so far
 abbrev pub Standing : Type 0
-Standing = Option (List ℕ) × Bound
+Standing = Option (List ℕ) × PathParameter
 
 -- behind one more part, if that may stand there
 abbrev pub behind : Part → Standing → Option Standing
@@ -37,17 +37,17 @@ behind part (Some path, b) =
     let c = cut 47 path in option_map (λ next. (c.1, next)) (bound_if_text part (text_in c.0) b)
 
 -- what is named, where nothing is left
-abbrev pub ended : Standing → Option Bound
+abbrev pub ended : Standing → Option PathParameter
 ended (None, b) = Some b
 ended (Some rest, b) = None
 
 -- what the parts of a path name, where they are just these
-abbrev pub bound_by : List Part → Standing → Option Bound
+abbrev pub bound_by : List Part → Standing → Option PathParameter
 bound_by [] at = ended at
 bound_by (part ∷ parts) at = option_and_then (bound_by parts) (behind part at)
 
 -- the same of a path, which begins with a slash
-abbrev pub bound_at : List Part → List ℕ → Option Bound
+abbrev pub bound_at : List Part → List ℕ → Option PathParameter
 bound_at parts [] = None
 bound_at parts (b ∷ path) = if b == 47 then bound_by parts (Some path, Nothing) else None
 
@@ -62,9 +62,9 @@ is_method a b = false
 pub record Place : Type 0 where
   pub method : Method
   pub leads : Form
-  pub bound : Bound
+  pub bound : PathParameter
 
-abbrev pub at : Row → Bound → Place
+abbrev pub at : Row → PathParameter → Place
 at row b = record { method = row.method; leads = row.leads; bound = b }
 
 abbrev pub place_on : Row → Method → List ℕ → Option Place

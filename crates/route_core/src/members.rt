@@ -12,7 +12,7 @@ ghost use Rattle.desk_forms.specs.Paths.{bound_of};
 
 use desk_forms::keys::is_key;
 use desk_forms::kinds::Arg;
-use desk_forms::paths::Bound;
+use desk_forms::paths::PathParameter;
 use serde_json::{Map, Value};
 use std::alloc::{AllocError, Global};
 use text_core::{Text, Texts};
@@ -50,7 +50,7 @@ fn object_in(value: Value) -> Option<Members>
     }
 }
 
-fn all_are_keys(bound: Bound<'_>, args: &[Arg], members: &Members) -> bool
+fn all_are_keys(bound: PathParameter<'_>, args: &[Arg], members: &Members) -> bool
     ensures { result ≡ list_all (λ key.
         keys.is_key (bound_of bound.entry) (map argument_of args.now) (string_bytes key))
         (map_keys members.now) }
@@ -59,7 +59,7 @@ fn all_are_keys(bound: Bound<'_>, args: &[Arg], members: &Members) -> bool
 }
 
 /// Whether each key is that of an argument that a body has.
-pub(crate) fn has_only(bound: Bound<'_>, args: &[Arg], members: &Members) -> bool
+pub(crate) fn has_only(bound: PathParameter<'_>, args: &[Arg], members: &Members) -> bool
     ensures { result ≡ spec.has_only (bound_of bound.entry) (map argument_of args.now)
         (members_view members.now.entries) }
 {

@@ -9,7 +9,7 @@ ghost use Rattle.route_core.specs.Places.{place_in};
 
 use crate::cuts::{cut, text_in};
 use desk_forms::number_of_word;
-use desk_forms::paths::{Bound, Method, Part, Path};
+use desk_forms::paths::{Method, Part, Path, PathParameter};
 use desk_forms::table::Form;
 
 /// A method, the form of a command, and what a path names for it.
@@ -17,7 +17,7 @@ use desk_forms::table::Form;
 pub(crate) struct Place<'a> {
     pub method: Method,
     pub leads: Form,
-    pub bound: Bound<'a>,
+    pub bound: PathParameter<'a>,
 }
 
 fn is_method(a: Method, b: Method) -> bool
@@ -31,7 +31,7 @@ fn is_method(a: Method, b: Method) -> bool
 }
 
 /// What the parts name so far, with this text at a part, if it may stand there.
-fn bound_to<'a>(part: Part, text: &'a str, bound: Bound<'a>) -> Option<Bound<'a>>
+fn bound_to<'a>(part: Part, text: &'a str, bound: PathParameter<'a>) -> Option<PathParameter<'a>>
     ensures { option_map bound_of result
         ≡ places.bound_to (part_of part) text.entry.now (bound_of bound.entry) }
 {
@@ -41,18 +41,18 @@ fn bound_to<'a>(part: Part, text: &'a str, bound: Bound<'a>) -> Option<Bound<'a>
             if text.is_empty() {
                 None
             } else {
-                Some(Bound::Queue(text))
+                Some(PathParameter::Queue(text))
             }
         }
         Part::Id => match number_of_word(text) {
-            Some(id) => Some(Bound::Request(id)),
+            Some(id) => Some(PathParameter::Request(id)),
             None => None,
         },
     }
 }
 
 /// The same of the bytes at a part, which have to be a text.
-fn bound_here<'a>(part: Part, here: &'a [u8], bound: Bound<'a>) -> Option<Bound<'a>>
+fn bound_here<'a>(part: Part, here: &'a [u8], bound: PathParameter<'a>) -> Option<PathParameter<'a>>
     ensures { option_map bound_of result
         ≡ places.bound_if_text (part_of part) (text_in here.entry.now)
         (bound_of bound.entry) }
@@ -66,8 +66,8 @@ fn bound_here<'a>(part: Part, here: &'a [u8], bound: Bound<'a>) -> Option<Bound<
 /// What is left of a path behind a part, and what is named so far, if the part may stand there.
 fn behind<'a>(
     part: Part,
-    at: (Option<&'a [u8]>, Bound<'a>),
-) -> Option<(Option<&'a [u8]>, Bound<'a>)>
+    at: (Option<&'a [u8]>, PathParameter<'a>),
+) -> Option<(Option<&'a [u8]>, PathParameter<'a>)>
     ensures { option_map places.standing_of result
         ≡ places.behind (part_of part) (places.standing_of at.entry) }
 {
@@ -84,7 +84,7 @@ fn behind<'a>(
 }
 
 /// What is named, where nothing is left of the path.
-fn ended<'a>(at: (Option<&'a [u8]>, Bound<'a>)) -> Option<Bound<'a>>
+fn ended<'a>(at: (Option<&'a [u8]>, PathParameter<'a>)) -> Option<PathParameter<'a>>
     ensures { option_map bound_of result ≡ places.ended (places.standing_of at.entry) }
 {
     match at.0 {
@@ -94,11 +94,11 @@ fn ended<'a>(at: (Option<&'a [u8]>, Bound<'a>)) -> Option<Bound<'a>>
 }
 
 /// What the parts of a path name, where they are these.
-fn bound_by<'a>(parts: &[Part], path: &'a [u8]) -> Option<Bound<'a>>
+fn bound_by<'a>(parts: &[Part], path: &'a [u8]) -> Option<PathParameter<'a>>
     ensures { option_map bound_of result
         ≡ places.bound_by (map part_of parts.now) (Some path.entry.now, Nothing) }
 {
-    let mut at = (Some(path), Bound::Nothing);
+    let mut at = (Some(path), PathParameter::Nothing);
     for part in parts {
         match behind(*part, at) {
             Some(next) => at = next,
@@ -109,7 +109,7 @@ fn bound_by<'a>(parts: &[Part], path: &'a [u8]) -> Option<Bound<'a>>
 }
 
 /// The same of a path, which begins with a slash.
-fn bound_at<'a>(parts: &[Part], path: &'a [u8]) -> Option<Bound<'a>>
+fn bound_at<'a>(parts: &[Part], path: &'a [u8]) -> Option<PathParameter<'a>>
     ensures { option_map bound_of result
         ≡ places.bound_at (map part_of parts.now) path.entry.now }
 {

@@ -3,11 +3,11 @@
 ghost use Rattle.std.specs.Prelude.{◌≡◌, IfOk};
 ghost use Rattle.serde_json.specs.View.{members_view};
 ghost use Rattle.desk_forms.specs.Paths.{bound_of};
-ghost use Rattle.route_core.specs.Said as said;
+ghost use Rattle.route_core.specs.JsonArguments as said;
 
 use crate::members::{Members, has_only, number_at, text_at, text_or_none_at, texts_at};
-use desk_forms::asked::{Sheet, asked};
-use desk_forms::paths::Bound;
+use desk_forms::asked::{ArgumentSource, asked};
+use desk_forms::paths::PathParameter;
 use desk_forms::table::{Form, args_of};
 use desk_model::Command;
 use std::alloc::{AllocError, Global};
@@ -15,28 +15,28 @@ use text_core::Texts;
 
 /// What the path of a message names, and the members of its body.
 #[derive(Drop)]
-struct Said<'m> {
-    bound: Bound<'m>,
+struct JsonArguments<'m> {
+    bound: PathParameter<'m>,
     members: &'m Members,
 }
 
-impl Sheet for Said<'_> {
+impl ArgumentSource for JsonArguments<'_> {
     ghost use Rattle.serde_json.specs.View.{members_view};
     ghost use Rattle.desk_forms.specs.Paths.{bound_of};
-    ghost use Rattle.route_core.specs.Said.{sheet_of};
+    ghost use Rattle.route_core.specs.JsonArguments.{sheet_of};
 
     ghost sheet = { λ s. sheet_of (bound_of s.bound) (members_view s.members.now.entries) };
 
     fn id(&self, _key: &str) -> Option<u32> {
         match self.bound {
-            Bound::Request(id) => Some(id),
+            PathParameter::Request(id) => Some(id),
             _ => None,
         }
     }
 
     fn queue(&self, key: &str) -> Option<&str> {
         match self.bound {
-            Bound::Queue(queue) => Some(queue),
+            PathParameter::Queue(queue) => Some(queue),
             _ => text_at(self.members, key),
         }
     }
@@ -67,7 +67,7 @@ impl Sheet for Said<'_> {
 pub(crate) fn said_by(
     alloc: Global,
     of: Form,
-    bound: Bound<'_>,
+    bound: PathParameter<'_>,
     members: &Members,
 ) -> Result<Option<Command>, AllocError>
     ensures { IfOk result (λ c.
@@ -76,5 +76,5 @@ pub(crate) fn said_by(
     if !has_only(bound, args_of(of), members) {
         return Ok(None);
     }
-    asked(alloc, of, &Said { bound, members })
+    asked(alloc, of, &JsonArguments { bound, members })
 }

@@ -14,7 +14,7 @@ use Rattle.server_core.specs.Wait.{IsToGiveWay, NoneGivesWay}
 use Rattle.server_core.specs.Works.{marked, marked_at}
 use Rattle.server_core.specs.declared.admit.Queue.{Queue}
 use Rattle.server_core.specs.declared.admit.Queue.TheVariants.{Empty, More, Full, Held, Unknown}
-use Rattle.server_core.specs.declared.host.Mark.{Mark}
+use Rattle.server_core.specs.declared.host.Readiness.{Readiness}
 use Rattle.server_core.specs.declared.slot.Slot.{Slot}
 use Rattle.server_core.proofs.CallLemmas.{adds_both, adds_none}
 
@@ -36,7 +36,7 @@ places_both (x ∷ xs) ys =
     ap (λ (l : List ℕ). place_of x.answer x.place l) (places_both xs ys)
     ∙ place_both x.answer x.place (places_of xs) (places_of ys)
 
-marked_both : (ps qs : List ℕ) (marks : List Mark)
+marked_both : (ps qs : List ℕ) (marks : List Readiness)
     → marked_at (ps ++ qs) marks ≡ marked_at qs (marked_at ps marks)
 marked_both [] qs marks = refl
 marked_both (p ∷ ps) qs marks = marked_both ps qs (set marks p marked)
@@ -48,21 +48,21 @@ calls_both (x ∷ xs) ys = ap (λ (l : List Call). accept_call x ∷ l) (calls_b
 
 -- none was accepted
 pub admitted_none : (calls called : Option (List Call)) (now : ℕ) (old new : List Conn)
-    (marks left : List Mark) → called ≡ calls → new ≡ old → left ≡ marks
+    (marks left : List Readiness) → called ≡ calls → new ≡ old → left ≡ marks
     → IsAdmitted calls called now [] old new marks left
 admitted_none calls called now old new marks left none same is =
     (same, adds_none calls called none, is)
 
 -- first those, then these
 pub admitted_both : (a b c : Option (List Call)) (now : ℕ) (xs ys : List Accept) (d e f : List Conn)
-    (k l m : List Mark) → IsAdmitted a b now xs d e k l → IsAdmitted b c now ys e f l m
+    (k l m : List Readiness) → IsAdmitted a b now xs d e k l → IsAdmitted b c now ys e f l m
     → IsAdmitted a c now (xs ++ ys) d f k m
 admitted_both a b c now xs ys d e f k l m (one, told, mark) (other, tells, left) = (
   subst (λ (ps : List ℕ). Admits now ps d f) (sym (places_both xs ys))
       (admits_all now (places_of xs) (places_of ys) d e f one other),
   subst (λ (cs : List Call). Adds a c cs) (sym (calls_both xs ys))
       (adds_both a b c (map accept_call xs) (map accept_call ys) told tells),
-  left ∙ ap (λ (ms : List Mark). marked_at (places_of ys) ms) mark
+  left ∙ ap (λ (ms : List Readiness). marked_at (places_of ys) ms) mark
       ∙ sym (marked_both (places_of xs) (places_of ys) k)
       ∙ ap (λ (ps : List ℕ). marked_at ps k) (sym (places_both xs ys)),
 )
@@ -90,7 +90,7 @@ unknown_full : Unknown ≢ Full
 unknown_full is = cc
 
 abbrev OneMore : {S : Type 0} → Option (List Call) → Option (List Call) → ℕ → List (Slot S)
-    → List (Slot S) → List Mark → List Mark → Queue → Type 0
+    → List (Slot S) → List Readiness → List Readiness → Queue → Type 0
 OneMore calls called now slots news marks left queue =
     (accepts : List Accept)
     × IsAdmitted calls called now accepts (conns slots) (conns news) marks left
@@ -98,7 +98,7 @@ OneMore calls called now slots news marks left queue =
 
 -- no place could be given
 pub admits_full : {S : Type 0} (calls called : Option (List Call)) (now : ℕ) (slots : List (Slot S))
-    (marks : List Mark) → called ≡ calls → NoneGivesWay now (conns slots)
+    (marks : List Readiness) → called ≡ calls → NoneGivesWay now (conns slots)
     → OneMore calls called now slots slots marks marks Full
 admits_full calls called now slots marks none way = (
   [],
@@ -109,7 +109,7 @@ admits_full calls called now slots marks none way = (
 
 -- the network gave none
 pub admits_nobody : {S : Type 0} (calls called : Option (List Call)) (place now : ℕ)
-    (slots : List (Slot S)) (marks : List Mark) (given : Option S) → given ≡ None
+    (slots : List (Slot S)) (marks : List Readiness) (given : Option S) → given ≡ None
     → Adds calls called (Accepts place (given_of given) ∷ [])
     → OneMore calls called now slots slots marks marks Empty
 admits_nobody {S} calls called place now slots marks given is told =
@@ -118,14 +118,14 @@ admits_nobody {S} calls called place now slots marks given is told =
     (an_accept place Nobody ∷ [], (refl, none, refl), (refl, refl), not_full now _ Empty empty_full)
 
 pub admits_fault : {S : Type 0} (calls called : Option (List Call)) (place now : ℕ)
-    (slots : List (Slot S)) (marks : List Mark) → Adds calls called (Accepts place Fails ∷ [])
+    (slots : List (Slot S)) (marks : List Readiness) → Adds calls called (Accepts place Fails ∷ [])
     → OneMore calls called now slots slots marks marks Unknown
 admits_fault calls called place now slots marks told =
     (an_accept place Fails ∷ [], (refl, told, refl), (refl, refl), not_full now _ Unknown unknown_full)
 
 -- it gave one
 pub admits_at : {S : Type 0} (calls called : Option (List Call)) (place now : ℕ)
-    (slots : List (Slot S)) (marks : List Mark) (slot : Slot S) (mark : Mark) (given : Option S)
+    (slots : List (Slot S)) (marks : List Readiness) (slot : Slot S) (mark : Readiness) (given : Option S)
     (stream : S) → given ≡ Some stream → Adds calls called (Accepts place (given_of given) ∷ [])
     → IsToGiveWay now place (conns slots)
     → seen slot.connection ≡ opened now → mark ≡ marked
@@ -138,7 +138,7 @@ admits_at {S} calls called place now slots marks slot mark given stream some tol
       (
         (gives, map-set view slots place slot ∙ ap (λ (c : Conn). set (conns slots) place c) fresh),
         came,
-        ap (λ (m : Mark). set marks place m) is,
+        ap (λ (m : Readiness). set marks place m) is,
       ),
       (refl, refl),
       not_full now _ More more_full,
@@ -156,12 +156,12 @@ come_both (x ∷ xs) ys one other = (one.0, come_both xs ys one.1 other)
 
 -- so many so far, each with a connection, and all of them are admitted
 abbrev pub FarAdmitted : Option (List Call) → Option (List Call) → ℕ → List Conn → List Conn
-    → List Mark → List Mark → ℕ → Type 0
+    → List Readiness → List Readiness → ℕ → Type 0
 FarAdmitted calls called now old new marks left count =
     (accepts : List Accept) × IsAdmitted calls called now accepts old new marks left
     × Come accepts × (length accepts ≡ count)
 
-pub far_none : (calls : Option (List Call)) (now : ℕ) (old : List Conn) (marks : List Mark)
+pub far_none : (calls : Option (List Call)) (now : ℕ) (old : List Conn) (marks : List Readiness)
     → FarAdmitted calls calls now old old marks marks 0
 far_none calls now old marks =
     ([], admitted_none calls calls now old old marks marks refl refl refl, tt, refl)
@@ -179,7 +179,7 @@ one_come (a ∷ rest) (none, is) = (
 )
 
 -- one more
-pub far_more : (a b c : Option (List Call)) (now : ℕ) (d e f : List Conn) (k l m : List Mark)
+pub far_more : (a b c : Option (List Call)) (now : ℕ) (d e f : List Conn) (k l m : List Readiness)
     (count : ℕ) (queue : Queue) → FarAdmitted a b now d e k l count
     → (accepts : List Accept) × IsAdmitted b c now accepts e f l m × IsAccept accepts queue
     × FullBy now f queue
@@ -222,13 +222,13 @@ accepts_then n (x ∷ xs) ys queue come last =
     (accepts_then n xs ys queue come.1 last))
 
 abbrev Admitted : Option (List Call) → Option (List Call) → ℕ → List Conn → List Conn
-    → List Mark → List Mark → Queue → Type 0
+    → List Readiness → List Readiness → Queue → Type 0
 Admitted calls called now old new marks left queue =
     (accepts : List Accept) × IsAdmitted calls called now accepts old new marks left
     × AreAccepts 32 accepts queue × FullBy now new queue
 
 -- the last of fewer than 32
-pub far_stops : (a b c : Option (List Call)) (now : ℕ) (d e f : List Conn) (k l m : List Mark)
+pub far_stops : (a b c : Option (List Call)) (now : ℕ) (d e f : List Conn) (k l m : List Readiness)
     (count : ℕ) (queue : Queue) → count < 32 → FarAdmitted a b now d e k l count
     → (accepts : List Accept) × IsAdmitted b c now accepts e f l m × IsAccept accepts queue
     × FullBy now f queue
@@ -244,7 +244,7 @@ far_stops a b c now d e f k l m count queue few (xs, one, come, is) (ys, other, 
     )
 
 -- 32
-pub far_all : (a b : Option (List Call)) (now : ℕ) (d e : List Conn) (k l : List Mark) (count : ℕ)
+pub far_all : (a b : Option (List Call)) (now : ℕ) (d e : List Conn) (k l : List Readiness) (count : ℕ)
     → count ≡ 32 → FarAdmitted a b now d e k l count → Admitted a b now d e k l More
 far_all a b now d e k l count whole (xs, one, come, is) =
     let all : length xs + zero ≡ 32 = omega (arith, whole, is) in
@@ -260,7 +260,7 @@ far_all a b now d e k l count whole (xs, one, come, is) =
 -- ---- by what was known of the clients
 
 abbrev pub AdmittedBy : Option (List Call) → Option (List Call) → ℕ → List Conn → List Conn
-    → List Mark → List Mark → Queue → Bool → Queue → Type 0
+    → List Readiness → List Readiness → Queue → Bool → Queue → Type 0
 AdmittedBy calls called now old new marks left was may queue =
     (accepts : List Accept) × IsAdmitted calls called now accepts old new marks left
     × AcceptsBy was may accepts queue × FullBy now new queue
@@ -274,7 +274,7 @@ by_queue Held queue may accepts some by = by
 by_queue Unknown queue may accepts some by = by
 
 -- no client waits
-pub admits_empty : (calls : Option (List Call)) (now : ℕ) (old : List Conn) (marks : List Mark)
+pub admits_empty : (calls : Option (List Call)) (now : ℕ) (old : List Conn) (marks : List Readiness)
     (was : Queue) (may : Bool) → was ≡ Empty
     → AdmittedBy calls calls now old old marks marks was may was
 admits_empty calls now old marks was may is = (
@@ -285,7 +285,7 @@ admits_empty calls now old marks was may is = (
 )
 
 -- none may be answered any more
-pub admits_held : (calls : Option (List Call)) (now : ℕ) (old : List Conn) (marks : List Mark)
+pub admits_held : (calls : Option (List Call)) (now : ℕ) (old : List Conn) (marks : List Readiness)
     (was : Queue) (may : Bool) → was ≢ Empty → may ≡ false
     → AdmittedBy calls calls now old old marks marks was may Held
 admits_held calls now old marks was may some is = (
@@ -297,7 +297,7 @@ admits_held calls now old marks was may some is = (
 )
 
 pub admits_many : (calls called : Option (List Call)) (now : ℕ) (old new : List Conn)
-    (marks left : List Mark) (was queue : Queue) (may : Bool) → was ≢ Empty → may ≡ true
+    (marks left : List Readiness) (was queue : Queue) (may : Bool) → was ≢ Empty → may ≡ true
     → (accepts : List Accept) × IsAdmitted calls called now accepts old new marks left
     × AreAccepts 32 accepts queue × FullBy now new queue
     → AdmittedBy calls called now old new marks left was may queue

@@ -19,7 +19,7 @@ use Rattle.server_core.specs.Wait.{pauses, sooner_of}
 use Rattle.server_core.specs.declared.admit.Kind.TheVariants.{Lingers, Reads}
 use Rattle.server_core.specs.declared.admit.Queue.TheVariants.{Empty, More, Full, Held, Unknown}
 use Rattle.server_core.specs.declared.admit.Waiting.{Waiting}
-use Rattle.server_core.specs.declared.host.Mark.{Mark}
+use Rattle.server_core.specs.declared.host.Readiness.{Readiness}
 
 -- Wait.antt: which connection gives way
 
@@ -77,13 +77,13 @@ free_place_is_there_at_once = refl
 
 -- Wait.antt: until there is something to do
 
-abbrev mark : Mark
+abbrev mark : Readiness
 mark = record { readable = false; writable = false }
 
-abbrev readable : Mark
+abbrev readable : Readiness
 readable = record { readable = true; writable = false }
 
-abbrev writable : Mark
+abbrev writable : Readiness
 writable = record { readable = false; writable = true }
 
 silent_connection_idles_to_its_deadline : idles 2000 (opened 1000) mark (Reading Blank) ≡ 29000

@@ -13,11 +13,11 @@ use Rattle.server_core.specs.Rests.{IsPause, Rest, queue_then, rest_calls}
 use Rattle.server_core.specs.Wait.{begins, gives_in, idles, is_full, pause_at, pauses}
 use Rattle.server_core.specs.declared.admit.Queue.{Queue}
 use Rattle.server_core.specs.declared.admit.Queue.TheVariants.{Full, More}
-use Rattle.server_core.specs.declared.host.Mark.{Mark}
+use Rattle.server_core.specs.declared.host.Readiness.{Readiness}
 use Rattle.server_core.specs.declared.slot.Slot.{Slot}
 use Rattle.server_core.proofs.CallLemmas.{adds_both}
 
-pauses_none : (full : Bool) (now : ℕ) (cs : List Conn) (ms : List Mark)
+pauses_none : (full : Bool) (now : ℕ) (cs : List Conn) (ms : List Readiness)
     → pauses full now 0 cs ms ≡ 0
 pauses_none full now [] ms = refl
 pauses_none full now (c ∷ cs) [] = refl
@@ -26,11 +26,11 @@ pauses_none full now (c ∷ cs) (m ∷ ms) =
     ap (λ (n : ℕ). pauses full now n cs ms) none ∙ pauses_none full now cs ms
 
 -- a free place gives way at once
-free_at : (now : ℕ) (c : Conn) (m : Mark) → c.phase ≡ Closed → pause_at true now c m ≡ 0
+free_at : (now : ℕ) (c : Conn) (m : Readiness) → c.phase ≡ Closed → pause_at true now c m ≡ 0
 free_at now c m is =
     ap (λ (p : Phase). min (gives_in now c p) (idles now c m p)) is
 
-free_by : (now pause place : ℕ) (cs : List Conn) (ms : List Mark) → length cs ≤ length ms
+free_by : (now pause place : ℕ) (cs : List Conn) (ms : List Readiness) → length cs ≤ length ms
     → place < length cs → (get_or cs place closed).phase ≡ Closed → pauses true now pause cs ms ≡ 0
 free_by now pause place [] ms many low is = let no : place < 0 = low in absurd (omega (arith, no))
 free_by now pause place (c ∷ cs) [] many low is = absurd (omega (arith, many))
@@ -42,7 +42,7 @@ free_by now pause (suc place) (c ∷ cs) (m ∷ ms) many low is =
     free_by now (min pause (pause_at true now c m)) place cs ms (omega (arith, many))
     (omega (arith, low)) is
 
-pub free_none : {S : Type 0} (slots : List (Slot S)) (ms : List Mark) (queue : Queue) (now r : ℕ)
+pub free_none : {S : Type 0} (slots : List (Slot S)) (ms : List Readiness) (queue : Queue) (now r : ℕ)
     → length slots ≤ length ms
     → r ≡ pauses (is_full queue) now (begins queue) (conns slots) ms
     → queue ≡ Full → HasFree (conns slots) → r ≡ 0
@@ -54,8 +54,8 @@ free_none {S} slots ms queue now r many is full (place, low, free) =
     many) low free
 
 -- one more was looked at
-pub pauses_on : {S : Type 0} (slots : List (Slot S)) (ms : List Mark) (full : Bool)
-    (now pause more whole i : ℕ) (d : Slot S) (m : Mark) → i < length slots → i < length ms
+pub pauses_on : {S : Type 0} (slots : List (Slot S)) (ms : List Readiness) (full : Bool)
+    (now pause more whole i : ℕ) (d : Slot S) (m : Readiness) → i < length slots → i < length ms
     → more ≡ min pause (pause_at full now (seen (get_or slots i d).connection) (get_or ms i m))
     → pauses full now pause (drop i (conns slots)) (drop i ms) ≡ whole
     → pauses full now more (drop (i + 1) (conns slots)) (drop (i + 1) ms) ≡ whole
@@ -69,11 +69,11 @@ pauses_on {S} slots ms full now pause more whole i d m low low_mark is same =
     let cut_marks = drop_more ms i m low_mark in
     ap (λ (n : ℕ). pauses full now n rest (drop (i + 1) ms)) is
     ∙ sym (ap (λ (l : List Conn). pauses full now pause l (drop i ms)) cut_conns
-    ∙ ap (λ (l : List Mark). pauses full now pause (c ∷ rest) l) cut_marks)
+    ∙ ap (λ (l : List Readiness). pauses full now pause (c ∷ rest) l) cut_marks)
     ∙ same
 
 -- all were
-pub none_left : {S : Type 0} (slots : List (Slot S)) (ms : List Mark) (full : Bool)
+pub none_left : {S : Type 0} (slots : List (Slot S)) (ms : List Readiness) (full : Bool)
     (now pause whole i : ℕ) → length slots ≤ i
     → pauses full now pause (drop i (conns slots)) (drop i ms) ≡ whole → pause ≡ whole
 none_left {S} slots ms full now pause whole i all same =
@@ -83,13 +83,13 @@ none_left {S} slots ms full now pause whole i all same =
 
 -- ---- a wait
 
-abbrev RestSo : Queue → List Mark → List Mark → Queue → List Conn → Option (List Call)
+abbrev RestSo : Queue → List Readiness → List Readiness → Queue → List Conn → Option (List Call)
     → Option (List Call) → Type 0
 RestSo queue marks left after cs calls called =
     (rest : Rest) × (rest.known ≡ record { queue = queue; marks = marks }) × (rest.marks ≡ left)
     × (queue_then rest ≡ after) × IsPause rest cs × Adds calls called (rest_calls rest)
 
-rests_by : (queue : Queue) (marks left : List Mark) (began pause : ℕ) (comes : Bool) (cs : List Conn)
+rests_by : (queue : Queue) (marks left : List Readiness) (began pause : ℕ) (comes : Bool) (cs : List Conn)
     (calls mid called : Option (List Call)) → Adds calls mid (Begins began ∷ [])
     → Adds mid called (Waits pause marks left comes ∷ [])
     → pause ≡ pauses (is_full queue) began (begins queue) cs marks → length cs ≤ length marks
@@ -110,7 +110,7 @@ rests_by queue marks left began pause comes cs calls mid called first last is ma
 )
 
 -- it told that a connection may wait
-pub rests_on : {S : Type 0} (queue : Queue) (marks left : List Mark) (began pause : ℕ) (comes : Bool)
+pub rests_on : {S : Type 0} (queue : Queue) (marks left : List Readiness) (began pause : ℕ) (comes : Bool)
     (slots : List (Slot S)) (calls mid called : Option (List Call)) → Adds calls mid (Begins began ∷ [])
     → Adds mid called (Waits pause marks left comes ∷ [])
     → pause ≡ pauses (is_full queue) began (begins queue) (conns slots) marks
@@ -121,7 +121,7 @@ rests_on queue marks left began pause comes slots calls mid called first last is
     (rests_by queue marks left began pause comes (conns slots) calls mid called first last is
     (simp length-map many))
 
-pub rests_still : {S : Type 0} (queue : Queue) (marks left : List Mark) (began pause : ℕ) (comes : Bool)
+pub rests_still : {S : Type 0} (queue : Queue) (marks left : List Readiness) (began pause : ℕ) (comes : Bool)
     (slots : List (Slot S)) (calls mid called : Option (List Call)) → Adds calls mid (Begins began ∷ [])
     → Adds mid called (Waits pause marks left comes ∷ [])
     → pause ≡ pauses (is_full queue) began (begins queue) (conns slots) marks
@@ -132,7 +132,7 @@ rests_still queue marks left began pause comes slots calls mid called first last
     (rests_by queue marks left began pause comes (conns slots) calls mid called first last is
     (simp length-map many))
 
-free_queue : (queue : Queue) (now : ℕ) (cs : List Conn) (ms : List Mark)
+free_queue : (queue : Queue) (now : ℕ) (cs : List Conn) (ms : List Readiness)
     → (queue ≡ More) ⊎ (queue ≡ Full) → HasFree cs → length cs ≤ length ms
     → pauses (is_full queue) now (begins queue) cs ms ≡ 0
 free_queue queue now cs ms (inl more) free many =

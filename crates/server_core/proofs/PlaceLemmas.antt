@@ -15,7 +15,7 @@ use Rattle.server_core.specs.Served.{IsStill}
 use Rattle.server_core.specs.Places.{Each, SoFar, TurnsOf, conns}
 use Rattle.server_core.specs.Turns.{Answered, TakeTurns, TakesTurn, somes}
 use Rattle.server_core.specs.Works.{WorksAmong, WorksAt, unmarked}
-use Rattle.server_core.specs.declared.host.Mark.{Mark}
+use Rattle.server_core.specs.declared.host.Readiness.{Readiness}
 use Rattle.server_core.specs.declared.slot.Slot.{Slot}
 use Rattle.server_core.proofs.CallLemmas.{adds_both, adds_nil, from_more}
 
@@ -56,15 +56,15 @@ heads_same a b xs ys same = cc
 
 -- ---- the calls of their streams
 
-abbrev WorksFar : List Mark → List Conn → List (Option Answered) → List (List Io) → List Mark → ℕ
+abbrev WorksFar : List Readiness → List Conn → List (Option Answered) → List (List Io) → List Readiness → ℕ
     → Type 0
 WorksFar marks olds ms ios left i =
     ((seat : ℕ) → seat < i → WorksAmong marks olds ms ios left seat)
     × ((seat : ℕ) → i ≤ seat → get_or left seat unmarked ≡ get_or marks seat unmarked)
 
 -- one before this place is as it was
-works_before : (marks : List Mark) (olds : List Conn) (ms : List (Option Answered)) (ios : List (List Io))
-    (left : List Mark) (i seat : ℕ) (m : Option Answered) (io : List Io) (mark : Mark)
+works_before : (marks : List Readiness) (olds : List Conn) (ms : List (Option Answered)) (ios : List (List Io))
+    (left : List Readiness) (i seat : ℕ) (m : Option Answered) (io : List Io) (mark : Readiness)
     → length ms ≡ i → length ios ≡ i → seat < i → WorksAmong marks olds ms ios left seat
     → WorksAmong marks olds (ms ++ m ∷ []) (ios ++ io ∷ []) (set left i mark) seat
 works_before marks olds ms ios left i seat m io mark some all low works =
@@ -76,12 +76,12 @@ works_before marks olds ms ios left i seat m io mark some all low works =
     (is_some x) (get_or (ios ++ io ∷ []) seat []) (get_or (set left i mark) seat unmarked)) (sym before)
     (subst (λ (x : List Io). WorksAt (get_or marks seat unmarked) (get_or olds seat closed)
     (is_some (get_or ms seat None)) x (get_or (set left i mark) seat unmarked)) (sym calls)
-    (subst (λ (x : Mark). WorksAt (get_or marks seat unmarked) (get_or olds seat closed)
+    (subst (λ (x : Readiness). WorksAt (get_or marks seat unmarked) (get_or olds seat closed)
     (is_some (get_or ms seat None)) (get_or ios seat []) x) (sym same) works))
 
 -- this place has had its turn
-works_here : (marks : List Mark) (olds : List Conn) (ms : List (Option Answered)) (ios : List (List Io))
-    (left : List Mark) (i : ℕ) (m : Option Answered) (io : List Io) (mark : Mark) (r : Bool) (c : Conn)
+works_here : (marks : List Readiness) (olds : List Conn) (ms : List (Option Answered)) (ios : List (List Io))
+    (left : List Readiness) (i : ℕ) (m : Option Answered) (io : List Io) (mark : Readiness) (r : Bool) (c : Conn)
     → length ms ≡ i → length ios ≡ i → i < length left → is_some m ≡ r → get_or olds i closed ≡ c
     → get_or left i unmarked ≡ get_or marks i unmarked
     → WorksAt (get_or left i unmarked) c r io mark
@@ -93,7 +93,7 @@ works_here marks olds ms ios left i m io mark r c some all low is this same work
     subst (λ (n : ℕ). get_or (ios ++ io ∷ []) n [] ≡ io) all (get_or-append_seam ios io [] []) in
     let new : get_or (set left i mark) i unmarked ≡ mark = get_or-set_same left i mark unmarked low in
     let by_mark =
-    subst (λ (x : Mark). WorksAt x c r io mark) same works in
+    subst (λ (x : Readiness). WorksAt x c r io mark) same works in
     let by_conn =
     subst (λ (x : Conn). WorksAt (get_or marks i unmarked) x r io mark) (sym this) by_mark in
     let by_answer =
@@ -102,11 +102,11 @@ works_here marks olds ms ios left i m io mark r c some all low is this same work
     let by_calls =
     subst (λ (x : List Io). WorksAt (get_or marks i unmarked) (get_or olds i closed)
     (is_some (get_or (ms ++ m ∷ []) i None)) x mark) (sym calls) by_answer in
-    subst (λ (x : Mark). WorksAt (get_or marks i unmarked) (get_or olds i closed)
+    subst (λ (x : Readiness). WorksAt (get_or marks i unmarked) (get_or olds i closed)
     (is_some (get_or (ms ++ m ∷ []) i None)) (get_or (ios ++ io ∷ []) i []) x) (sym new) by_calls
 
-works_by : (marks : List Mark) (olds : List Conn) (ms : List (Option Answered))
-    (ios : List (List Io)) (left : List Mark) (i seat : ℕ) (m : Option Answered) (io : List Io) (mark : Mark)
+works_by : (marks : List Readiness) (olds : List Conn) (ms : List (Option Answered))
+    (ios : List (List Io)) (left : List Readiness) (i seat : ℕ) (m : Option Answered) (io : List Io) (mark : Readiness)
     → length ms ≡ i → length ios ≡ i → (seat ≡ i) ⊎ (seat < i)
     → ((s : ℕ) → s < i → WorksAmong marks olds ms ios left s)
     → WorksAmong marks olds (ms ++ m ∷ []) (ios ++ io ∷ []) (set left i mark) i
@@ -117,8 +117,8 @@ works_by marks olds ms ios left i seat m io mark some all (inl is) far here =
 works_by marks olds ms ios left i seat m io mark some all (inr low) far here =
     works_before marks olds ms ios left i seat m io mark some all low (far seat low)
 
-works_more : (marks : List Mark) (olds : List Conn) (ms : List (Option Answered)) (ios : List (List Io))
-    (left : List Mark) (i : ℕ) (m : Option Answered) (io : List Io) (mark : Mark) (r : Bool) (c : Conn)
+works_more : (marks : List Readiness) (olds : List Conn) (ms : List (Option Answered)) (ios : List (List Io))
+    (left : List Readiness) (i : ℕ) (m : Option Answered) (io : List Io) (mark : Readiness) (r : Bool) (c : Conn)
     → length ms ≡ i → length ios ≡ i → i < length left → is_some m ≡ r → get_or olds i closed ≡ c
     → WorksAt (get_or left i unmarked) c r io mark → WorksFar marks olds ms ios left i
     → WorksFar marks olds (ms ++ m ∷ []) (ios ++ io ∷ []) (set left i mark) (i + 1)
@@ -135,8 +135,8 @@ works_more marks olds ms ios left i m io mark r c some all low is this works (fa
 
 -- one more has had its turn
 far_on : {D : Type 0} (States : List ℕ → Option ℕ → Type 0) (Steps : D → Answered → D → Type 0)
-    (calls mid called : Option (List Call)) (now : ℕ) (marks left : List Mark) (olds news : List Conn)
-    (d e f : D) (i count : ℕ) (r : Bool) (x y : Conn) (mark : Mark)
+    (calls mid called : Option (List Call)) (now : ℕ) (marks left : List Readiness) (olds news : List Conn)
+    (d e f : D) (i count : ℕ) (r : Bool) (x y : Conn) (mark : Readiness)
     → i < length news → i < length left → x ≡ get_or news i x
     → SoFar States Steps calls mid now marks olds d i left news e count
     → (m : Option Answered) × (is_some m ≡ r) × TakesTurn States Steps now m x e y f
@@ -178,8 +178,8 @@ far_on {D} States Steps calls mid called now marks left olds news d e f i count 
 -- the same of the places that hold them
 pub places_on : {D S : Type 0} (States : List ℕ → Option ℕ → Type 0)
     (Steps : D → Answered → D → Type 0) (calls mid called : Option (List Call)) (now : ℕ)
-    (marks left : List Mark) (olds : List Conn) (slots : List (Slot S))
-    (d e f : D) (i count more : ℕ) (r : Bool) (item slot : Slot S) (mark : Mark) → i < length slots
+    (marks left : List Readiness) (olds : List Conn) (slots : List (Slot S))
+    (d e f : D) (i count more : ℕ) (r : Bool) (item slot : Slot S) (mark : Readiness) → i < length slots
     → i < length left → more ≡ count + bit r
     → SoFar States Steps calls mid now marks olds d i left (conns slots) e count
     → (m : Option Answered) × (is_some m ≡ r)
@@ -217,7 +217,7 @@ each_on {S} P slots i slot low each this =
     subst (λ (l : List Conn). Each P (take (i + 1) l)) (sym (map-set view slots i slot)) by_set
 
 pub none_far : {D : Type 0} (States : List ℕ → Option ℕ → Type 0)
-    (Steps : D → Answered → D → Type 0) (calls : Option (List Call)) (now : ℕ) (marks : List Mark)
+    (Steps : D → Answered → D → Type 0) (calls : Option (List Call)) (now : ℕ) (marks : List Readiness)
     (olds : List Conn) (d : D) → SoFar States Steps calls calls now marks olds d 0 marks olds d 0
 none_far States Steps calls now marks olds d = (
   [],
@@ -235,7 +235,7 @@ none_far States Steps calls now marks olds d = (
 
 pub all_far : {D : Type 0} (States : List ℕ → Option ℕ → Type 0)
     (Steps : D → Answered → D → Type 0) (calls called : Option (List Call)) (now : ℕ)
-    (marks left : List Mark) (olds news : List Conn) (d e : D)
+    (marks left : List Readiness) (olds news : List Conn) (d e : D)
     (i count : ℕ) → length news ≤ i → i ≤ length news
     → SoFar States Steps calls called now marks olds d i left news e count
     → TurnsOf States Steps calls called now marks olds d left news e count

@@ -11,7 +11,7 @@ use Rattle.server_core.specs.Calls.{is_failed_read, is_idle, is_idle_write, is_r
 use Rattle.server_core.specs.Reads.{HasRead, HasWritten, KeepsMark, KeepsWritable, ReadsOnce}
 use Rattle.server_core.specs.Reads.{WritesOnce, listens}
 use Rattle.server_core.specs.Works.{HasReadAt, HasWrittenAt, IsLeft, WorksAt}
-use Rattle.server_core.specs.declared.host.Mark.{Mark}
+use Rattle.server_core.specs.declared.host.Readiness.{Readiness}
 use Rattle.server_core.proofs.CallLemmas.{adds_none, adds_same, ios_both, many_both}
 
 pub some_taken : (n : ℕ) (bytes : List ℕ) → n ≤ length bytes → 0 < n → 0 < length (take n bytes)
@@ -20,7 +20,7 @@ some_taken n bytes few some = let is = length-take-le n bytes few in omega (arit
 -- ---- nothing is read or written
 
 pub reads_none : {S : Type 0} (States : List ℕ → Option ℕ → Type 0) (remaining : S → Option (List ℕ))
-    (calls called : Option (List Call)) (place : ℕ) (mark left : Mark) (listening : Bool)
+    (calls called : Option (List Call)) (place : ℕ) (mark left : Readiness) (listening : Bool)
     (had has : Option S) (old new : Conn) → called ≡ calls
     → (mark.readable ≡ false) ⊎ (listening ≡ false) → left ≡ mark → has ≡ had → new ≡ old
     → (ios : List Io) × Adds calls called (at_place place ios) × ReadsOnce mark listening ios left
@@ -28,14 +28,14 @@ pub reads_none : {S : Type 0} (States : List ℕ → Option ℕ → Type 0) (rem
 reads_none States remaining calls called place mark left listening had has old new none not same kept is =
     ([], adds_none calls called none, inr (not, refl, same), inl (refl, kept, is))
 
-pub settles_none : (calls called : Option (List Call)) (place : ℕ) (mark left : Mark) → called ≡ calls
+pub settles_none : (calls called : Option (List Call)) (place : ℕ) (mark left : Readiness) → called ≡ calls
     → left ≡ mark
     → (ios : List Io) × Adds calls called (at_place place ios)
     × (lingering : Bool) × ReadsOnce mark lingering ios left
 settles_none calls called place mark left none same =
     ([], adds_none calls called none, false, inr (inr refl, refl, same))
 
-pub writes_none : (calls called : Option (List Call)) (place : ℕ) (mark left : Mark) (phase : Phase)
+pub writes_none : (calls called : Option (List Call)) (place : ℕ) (mark left : Readiness) (phase : Phase)
     → called ≡ calls → (mark.writable ≡ false) ⊎ (phase ≢ Writing) → left ≡ mark
     → (ios : List Io) × Adds calls called (at_place place ios) × WritesOnce mark phase ios left
 writes_none calls called place mark left phase none not same =
@@ -49,7 +49,7 @@ heard_in found phase (inl (part, reads)) is = ap listens (sym is ∙ reads)
 heard_in found phase (inr lingers) is = ap listens (sym is ∙ lingers)
 
 pub reads_once : {S : Type 0} (States : List ℕ → Option ℕ → Type 0) (remaining : S → Option (List ℕ))
-    (calls called : Option (List Call)) (place : ℕ) (mark left : Mark) (listening : Bool)
+    (calls called : Option (List Call)) (place : ℕ) (mark left : Readiness) (listening : Bool)
     (had has : Option S) (was is : S) (old new : Conn) → mark.readable ≡ true → listening ≡ true
     → had ≡ Some was → has ≡ Some is → left.writable ≡ mark.writable
     → (got : Option ℕ) × Adds calls called (At place (Reads got) ∷ [])
@@ -66,7 +66,7 @@ reads_once States remaining calls called place mark left listening had has was i
     )
 
 pub writes_once : {S : Type 0} (now : ℕ) (contents : S → Option (List ℕ))
-    (calls called : Option (List Call)) (place : ℕ) (mark left : Mark) (phase : Phase)
+    (calls called : Option (List Call)) (place : ℕ) (mark left : Readiness) (phase : Phase)
     (had has : Option S) (was is : S) (old new : Conn) → mark.writable ≡ true → phase ≡ Writing
     → had ≡ Some was → has ≡ Some is → left.readable ≡ mark.readable
     → (took : Option ℕ) × Adds calls called (At place (Writes took) ∷ [])
@@ -84,14 +84,14 @@ writes_once now contents calls called place mark left phase had has was is old n
 
 -- ---- what is read and written in all
 
-record WasRead (old : Mark) (listening : Bool) (ios : List Io) (new : Mark) : Type 0 where
+record WasRead (old : Readiness) (listening : Bool) (ios : List Io) (new : Readiness) : Type 0 where
   once : old.readable ≡ true → listening ≡ true → 1 ≤ how_many is_read ios
   few : how_many is_read ios ≤ 1
   unwritten : how_many is_write ios ≡ 0
   left : IsLeft old.readable new.readable is_failed_read ios
   other : new.writable ≡ old.writable
 
-record WasWritten (old : Mark) (phase : Phase) (ios : List Io) (new : Mark) : Type 0 where
+record WasWritten (old : Readiness) (phase : Phase) (ios : List Io) (new : Readiness) : Type 0 where
   once : old.writable ≡ true → phase ≡ Writing → 1 ≤ how_many is_write ios
   few : how_many is_write ios ≤ 1
   unread : how_many is_read ios ≡ 0
@@ -116,17 +116,17 @@ left_written old new took (inl same) = inl same
 left_written old new took (inr (gone, idle)) =
     left_written_by old new (is_idle took) took refl idle gone
 
-never_read : (old : Mark) (listening : Bool) → (old.readable ≡ false) ⊎ (listening ≡ false)
+never_read : (old : Readiness) (listening : Bool) → (old.readable ≡ false) ⊎ (listening ≡ false)
     → old.readable ≡ true → listening ≡ true → ⊥
 never_read old listening (inl off) marked heard = let both : false ≡ true = sym off ∙ marked in cc
 never_read old listening (inr off) marked heard = let both : false ≡ true = sym off ∙ heard in cc
 
-never_written : (old : Mark) (phase : Phase) → (old.writable ≡ false) ⊎ (phase ≢ Writing)
+never_written : (old : Readiness) (phase : Phase) → (old.writable ≡ false) ⊎ (phase ≢ Writing)
     → old.writable ≡ true → phase ≡ Writing → ⊥
 never_written old phase (inl off) marked writing = let both : false ≡ true = sym off ∙ marked in cc
 never_written old phase (inr off) marked writing = off writing
 
-was_read : (old new : Mark) (listening : Bool) (ios : List Io) → ReadsOnce old listening ios new
+was_read : (old new : Readiness) (listening : Bool) (ios : List Io) → ReadsOnce old listening ios new
     → WasRead old listening ios new
 was_read old new listening ios (inl (marked, listens, got, is, keeps, same)) =
     subst (λ (l : List Io). WasRead old listening l new) (sym is) (record {
@@ -141,11 +141,11 @@ was_read old new listening ios (inr (not, is, same)) =
       once = λ marked listens. absurd (never_read old listening not marked listens);
       few = omega arith;
       unwritten = refl;
-      left = inl (ap (λ (m : Mark). m.readable) same);
-      other = ap (λ (m : Mark). m.writable) same;
+      left = inl (ap (λ (m : Readiness). m.readable) same);
+      other = ap (λ (m : Readiness). m.writable) same;
     })
 
-was_written : (old new : Mark) (phase : Phase) (ios : List Io) → WritesOnce old phase ios new
+was_written : (old new : Readiness) (phase : Phase) (ios : List Io) → WritesOnce old phase ios new
     → WasWritten old phase ios new
 was_written old new phase ios (inl (marked, writing, took, is, keeps, same)) =
     subst (λ (l : List Io). WasWritten old phase l new) (sym is) (record {
@@ -160,8 +160,8 @@ was_written old new phase ios (inr (not, is, same)) =
       once = λ marked writing. absurd (never_written old phase not marked writing);
       few = omega arith;
       unread = refl;
-      left = inl (ap (λ (m : Mark). m.writable) same);
-      other = ap (λ (m : Mark). m.readable) same;
+      left = inl (ap (λ (m : Readiness). m.writable) same);
+      other = ap (λ (m : Readiness). m.readable) same;
     })
 
 left_both : (a b c : Bool) (is : Io → Bool) (xs ys : List Io) → IsLeft a b is xs → IsLeft b c is ys
@@ -175,7 +175,7 @@ left_both a b c is xs ys (inr first) (inr (gone, by)) =
     let all = many_both is xs ys in inr (gone, omega (arith, all, by))
 
 -- a turn reads, writes, and reads again
-pub works_at : (mark one two left : Mark) (old : Conn) (phase : Phase) (answered lingering : Bool)
+pub works_at : (mark one two left : Readiness) (old : Conn) (phase : Phase) (answered lingering : Bool)
     (xs ys zs : List Io) → ReadsOnce mark (listens old.phase) xs one → WritesOnce one phase ys two
     → ReadsOnce two lingering zs left
     → ((old.phase ≡ Writing) ⊎ (answered ≡ true) → phase ≡ Writing)
@@ -210,7 +210,7 @@ is_writing old mid phase answered deaf stays writes (inl writing) =
 is_writing old mid phase answered deaf stays writes (inr here) = writes here
 
 -- the same as the host tells it
-pub works_told : (place : ℕ) (a b c d e : Option (List Call)) (mark one two left : Mark)
+pub works_told : (place : ℕ) (a b c d e : Option (List Call)) (mark one two left : Readiness)
     (old mid last : Conn) (answered : Bool)
     → (listens old.phase ≡ false → mid.phase ≡ old.phase)
     → (mid.phase ≢ Ready → last.phase ≡ mid.phase) → (answered ≡ true → last.phase ≡ Writing)

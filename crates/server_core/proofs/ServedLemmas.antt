@@ -23,10 +23,10 @@ use Rattle.server_core.specs.Wait.{NoneGivesWay}
 use Rattle.server_core.specs.Works.{Works, marked_at, unmarked}
 use Rattle.server_core.specs.declared.admit.Queue.{Queue}
 use Rattle.server_core.specs.declared.admit.Queue.TheVariants.{Full, More}
-use Rattle.server_core.specs.declared.host.Mark.{Mark}
+use Rattle.server_core.specs.declared.host.Readiness.{Readiness}
 use Rattle.server_core.proofs.CallLemmas.{adds_both, adds_nil}
 use Rattle.server_core.specs.declared.ending.Ending.{Ending}
-use Rattle.server_core.specs.declared.ending.Ending.TheVariants.{Counted, Network, Shut, Spent}
+use Rattle.server_core.specs.declared.ending.Ending.TheVariants.{Counted, Network, Shut, OutOfTurns}
 use Rattle.server_core.specs.declared.slot.Slot.{Slot}
 
 -- ---- the places
@@ -42,7 +42,7 @@ pub places_free : {S : Type 0} (slots : List (Slot S)) (places : ℕ)
 places_free slots places is =
     is ∙ ap (λ (n : ℕ). replicate n closed) (sym (places_count slots places is))
 
-pub marks_unset : (marks items : List Mark) (places count : ℕ) → marks ≡ items
+pub marks_unset : (marks items : List Readiness) (places count : ℕ) → marks ≡ items
     → items ≡ replicate places unmarked → count ≡ places → marks ≡ replicate count unmarked
 marks_unset marks items places count is unset same =
     is ∙ unset ∙ ap (λ (n : ℕ). replicate n unmarked) (sym same)
@@ -143,12 +143,12 @@ linked_more known mid left [] t linked first last = (first ∙ linked, sym last)
 linked_more known mid left (s ∷ ts) t (here, linked) first last =
     (here, linked_more s.left mid left ts t linked first last)
 
-abbrev pub known_by : Queue → List Mark → Known
+abbrev pub known_by : Queue → List Readiness → Known
 known_by queue marks = record { queue = queue; marks = marks }
 
 pub serves_begin : {D : Type 0} (States : List ℕ → Option ℕ → Type 0)
     (Steps : D → Answered → D → Type 0) (shuts : D → Bool) (told : Told) (calls : Option (List Call))
-    (places most : ℕ) (desk : D) (cs : List Conn) (marks : List Mark) → cs ≡ replicate places closed
+    (places most : ℕ) (desk : D) (cs : List Conn) (marks : List Readiness) → cs ≡ replicate places closed
     → marks ≡ replicate places unmarked
     → ServesFrom States Steps shuts told told calls calls places most desk cs desk
     (record { queue = More; marks = marks }) 0 0
@@ -158,7 +158,7 @@ serves_begin States Steps shuts told calls places most desk cs marks is unset = 
   refl,
   refl,
   (Appends-nil told.moments, Appends-nil told.minutes, lines_nil told.lines),
-  ap (λ (l : List Mark). known_by More l) unset,
+  ap (λ (l : List Readiness). known_by More l) unset,
   adds_nil calls,
 )
 
@@ -274,7 +274,7 @@ plain_turns States Steps now (n ∷ ms) (o ∷ olds) [] d e never = absurd never
 
 pub turns_failed : {D : Type 0} (States : List ℕ → Option ℕ → Type 0)
     (Steps : D → Answered → D → Type 0) (calls called : Option (List Call)) (now : ℕ)
-    (marks left : List Mark) (olds news : List Conn) (d e : D) (t u : Told) (count : ℕ)
+    (marks left : List Readiness) (olds news : List Conn) (d e : D) (t u : Told) (count : ℕ)
     → TurnsOf States (logged Steps) calls called now marks olds (d, t) left news (e, u) count
     → u.failed ≡ t.failed
 turns_failed States Steps calls called now marks left olds news d e t u count
@@ -290,7 +290,7 @@ may_some false most left none all = ap (λ (n : ℕ). nat_lt 0 n) (sym (all refl
 pub goes_on : {D : Type 0} (States : List ℕ → Option ℕ → Type 0)
     (Steps : D → Answered → D → Type 0) (shuts : D → Bool)
     (told tick tock takes tells : Told) (calls had mid called : Option (List Call)) (a b c : List Conn)
-    (before begun after : List Mark) (desk next : D) (rest : Rest) (was queue : Queue)
+    (before begun after : List Readiness) (desk next : D) (rest : Rest) (was queue : Queue)
     (now minute most left count : ℕ) → TellsMoment told tick now → TellsMinute tick tock minute
     → had ≡ calls → KeepsClock tock takes
     → ((accepts : List Accept) × IsAdmitted had mid now accepts a b before begun
@@ -315,7 +315,7 @@ goes_on States Steps shuts told tick tock takes tells calls had mid called a b c
     ) in
     let first : takes.lines ≡ told.lines = keeps.1 ∙ at.2 ∙ moment.2 in
     let begins : begun ≡ marked_at (places_of accepts) rest.marks =
-    marked ∙ ap (λ (l : List Mark). marked_at (places_of accepts) l) (sym back) in
+    marked ∙ ap (λ (l : List Readiness). marked_at (places_of accepts) l) (sym back) in
     let queues : AcceptsBy (queue_then rest) (may_answer (shuts desk) most) accepts queue =
     subst (λ (q : Queue). AcceptsBy q (may_answer (shuts desk) most) accepts queue) (sym then)
     (subst (λ (m : Bool). AcceptsBy was m accepts queue) (sym (may_some (shuts desk) most left none all))
@@ -343,7 +343,7 @@ goes_on States Steps shuts told tick tock takes tells calls had mid called a b c
         refl,
         queues,
         full,
-        subst (λ (l : List Mark). Works l b ms ios after) begins works,
+        subst (λ (l : List Readiness). Works l b ms ios after) begins works,
       ),
       answered,
       (
@@ -367,7 +367,7 @@ due_ends Network most count turns shut faults tells news known few (unknown, fre
     (few, inr (omega (arith, known, unknown), free))
 due_ends Shut most count turns shut faults tells news known few (less, is, still) =
     (omega (arith, few, less), is, still)
-due_ends Spent most count turns shut faults tells news known few due = absurd due
+due_ends OutOfTurns most count turns shut faults tells news known few due = absurd due
 
 pub served_at : {D : Type 0} (States : List ℕ → Option ℕ → Type 0)
     (Steps : D → Answered → D → Type 0) (shuts : D → Bool) (faults : ℕ)
@@ -421,7 +421,7 @@ pub served_spent : {D : Type 0} (States : List ℕ → Option ℕ → Type 0)
     (left : Known) (count turns : ℕ)
     → ServesFrom States Steps shuts told tells calls called places most first news next left count turns
     → turns ≡ 2 ^ 64 - 1 → count ≤ most
-    → IsServed States Steps shuts told tells calls called places most first Spent next
+    → IsServed States Steps shuts told tells calls called places most first OutOfTurns next
 served_spent States Steps shuts told tells calls called places most first next news left count turns serves
     all few =
     (news, left, count, turns, called, serves, (few, all), inl (adds_nil called))

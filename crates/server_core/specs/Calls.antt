@@ -3,7 +3,7 @@ use Rattle.std.specs.Prelude.{◌≡◌, ℕ, suc, ⊤, Bool, true, false, List,
 use Rattle.std.specs.Prelude.{Option, Some, None, is_none, if◌then◌else◌}
 use Rattle.std.specs.declared.result.Result.{Result}
 use Rattle.std.specs.declared.result.Result.TheVariants.{Ok, Err}
-use Rattle.server_core.specs.declared.host.Mark.{Mark}
+use Rattle.server_core.specs.declared.host.Readiness.{Readiness}
 
 -- one read or write of a stream: how many bytes came or were taken, if it didn't fail
 pub data Io : Type 0 where
@@ -21,7 +21,7 @@ pub data Call : Type 0 where
   Begins : ℕ → Call
   -- a wait for so many milliseconds at most, with these marks: those that it gave back, and whether a
   -- connection may wait
-  Waits : ℕ → List Mark → List Mark → Bool → Call
+  Waits : ℕ → List Readiness → List Readiness → Bool → Call
   -- an accept for this place
   Accepts : ℕ → Accepted → Call
   -- a call of the stream at this place

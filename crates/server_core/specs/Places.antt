@@ -6,7 +6,7 @@ use Rattle.connection_core.specs.declared.phase.Phase.TheVariants.{Closed}
 use Rattle.server_core.specs.Calls.{Adds, Call, Io, from_place}
 use Rattle.server_core.specs.Turns.{Answered, TakeTurns, somes}
 use Rattle.server_core.specs.Works.{Works, WorksAmong, unmarked}
-use Rattle.server_core.specs.declared.host.Mark.{Mark}
+use Rattle.server_core.specs.declared.host.Readiness.{Readiness}
 use Rattle.server_core.specs.declared.slot.Slot.{Slot}
 
 -- the connections at the places
@@ -23,8 +23,8 @@ HasFree cs = (place : ℕ) × (place < length cs) × ((get_or cs place closed).p
 
 -- so many connections have had their turn, with so many answers; the others are as they were
 abbrev pub SoFar : {D : Type 0} → (List ℕ → Option ℕ → Type 0) → (D → Answered → D → Type 0)
-    → Option (List Call) → Option (List Call) → ℕ → List Mark → List Conn → D → ℕ
-    → List Mark → List Conn → D → ℕ → Type 0
+    → Option (List Call) → Option (List Call) → ℕ → List Readiness → List Conn → D → ℕ
+    → List Readiness → List Conn → D → ℕ → Type 0
 SoFar States Steps calls called now marks olds desk place left news next count =
     (ms : List (Option Answered)) × (length (somes ms) ≡ count)
     × TakeTurns States Steps now ms (take place olds) desk (take place news) next
@@ -36,8 +36,8 @@ SoFar States Steps calls called now marks olds desk place left news next count =
 
 -- all have had their turn
 abbrev pub TurnsOf : {D : Type 0} → (List ℕ → Option ℕ → Type 0) → (D → Answered → D → Type 0)
-    → Option (List Call) → Option (List Call) → ℕ → List Mark → List Conn → D
-    → List Mark → List Conn → D → ℕ → Type 0
+    → Option (List Call) → Option (List Call) → ℕ → List Readiness → List Conn → D
+    → List Readiness → List Conn → D → ℕ → Type 0
 TurnsOf States Steps calls called now marks olds desk left news next count =
     (ms : List (Option Answered)) × (length (somes ms) ≡ count)
     × TakeTurns States Steps now ms olds desk news next

@@ -6,7 +6,7 @@ use Rattle.connection_core.specs.Machine.{Conn, Hears, closed, ended, wrote}
 use Rattle.connection_core.specs.declared.phase.Phase.{Phase}
 use Rattle.connection_core.specs.declared.phase.Phase.TheVariants.{Reading, Ready, Writing, Lingering, Closed}
 use Rattle.server_core.specs.Calls.{Io, Reads, Writes, is_idle}
-use Rattle.server_core.specs.declared.host.Mark.{Mark}
+use Rattle.server_core.specs.declared.host.Readiness.{Readiness}
 
 -- One read, which gave so many bytes if it didn't fail. Bytes came, and were taken by what their head
 -- states, or the connection is dropped for want of memory; or the peer sends no more; or the read
@@ -42,7 +42,7 @@ listens Lingering = true
 listens Closed = false
 
 -- its stream was read once, where its mark says that something came, and it is looked at; else not
-abbrev pub ReadsOnce : Mark → Bool → List Io → Mark → Type 0
+abbrev pub ReadsOnce : Readiness → Bool → List Io → Readiness → Type 0
 ReadsOnce old listening ios new =
     ((old.readable ≡ true) × (listening ≡ true)
     × (got : Option ℕ) × (ios ≡ Reads got ∷ []) × KeepsMark old.readable new.readable got
@@ -51,7 +51,7 @@ ReadsOnce old listening ios new =
 
 -- its stream was written once, where its mark says that something may be taken, and a reply goes out;
 -- else not
-abbrev pub WritesOnce : Mark → Phase → List Io → Mark → Type 0
+abbrev pub WritesOnce : Readiness → Phase → List Io → Readiness → Type 0
 WritesOnce old phase ios new =
     ((old.writable ≡ true) × (phase ≡ Writing)
     × (took : Option ℕ) × (ios ≡ Writes took ∷ []) × KeepsWritable old.writable new.writable took

@@ -7,12 +7,12 @@ use Rattle.server_core.specs.Wait.{begins, is_full, pauses}
 use Rattle.server_core.specs.Works.{unmarked}
 use Rattle.server_core.specs.declared.admit.Queue.{Queue}
 use Rattle.server_core.specs.declared.admit.Queue.TheVariants.{Empty, More, Full, Held, Unknown}
-use Rattle.server_core.specs.declared.host.Mark.{Mark}
+use Rattle.server_core.specs.declared.host.Readiness.{Readiness}
 
 -- what is known after a turn: whether clients wait, and for what each place is marked
 pub record Known : Type 0 where
   pub queue : Queue
-  pub marks : List Mark
+  pub marks : List Readiness
 
 -- before the first turn of so many places
 abbrev pub at_first : ℕ → Known
@@ -24,7 +24,7 @@ pub record Rest : Type 0 where
   pub known : Known
   pub began : ℕ
   pub pause : ℕ
-  pub marks : List Mark
+  pub marks : List Readiness
   pub comes : Bool
 
 -- what the host tells of it

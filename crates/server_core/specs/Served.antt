@@ -13,9 +13,9 @@ use Rattle.server_core.specs.Turns.{Answered, IsDone, TakeTurns, at_minute, line
 use Rattle.server_core.specs.Wait.{IsToGiveWay, NoneGivesWay}
 use Rattle.server_core.specs.Works.{Works, marked_at}
 use Rattle.server_core.specs.declared.admit.Queue.TheVariants.{Full}
-use Rattle.server_core.specs.declared.host.Mark.{Mark}
+use Rattle.server_core.specs.declared.host.Readiness.{Readiness}
 use Rattle.server_core.specs.declared.ending.Ending.{Ending}
-use Rattle.server_core.specs.declared.ending.Ending.TheVariants.{Counted, Network, Shut, Spent}
+use Rattle.server_core.specs.declared.ending.Ending.TheVariants.{Counted, Network, Shut, OutOfTurns}
 
 -- a connection was accepted at each of these places in turn, at this moment
 abbrev pub Admits : ℕ → List ℕ → List Conn → List Conn → Type 0
@@ -26,7 +26,7 @@ Admits now (place ∷ rest) old new =
 -- These accepts were asked for: connections were accepted where the network gave one, and their places
 -- are marked.
 abbrev pub IsAdmitted : Option (List Call) → Option (List Call) → ℕ → List Accept
-    → List Conn → List Conn → List Mark → List Mark → Type 0
+    → List Conn → List Conn → List Readiness → List Readiness → Type 0
 IsAdmitted calls called now accepts old new marks left =
     Admits now (places_of accepts) old new × Adds calls called (map accept_call accepts)
     × (left ≡ marked_at (places_of accepts) marks)
@@ -144,7 +144,7 @@ EndsAt Network most count turns shut tells news =
     × ((tells.wait_failed ≡ true)
     ⊎ ((16 ≤ tells.failed) × Each (λ c. c.phase ≡ Closed) news))
 EndsAt Shut most count turns shut tells news = (count < most) × (shut ≡ true) × Each IsStill news
-EndsAt Spent most count turns shut tells news = (count ≤ most) × (turns ≡ 2 ^ 64 - 1)
+EndsAt OutOfTurns most count turns shut tells news = (count ≤ most) × (turns ≡ 2 ^ 64 - 1)
 
 -- nothing was asked of the network after its last turn, but a wait that failed
 abbrev pub EndsCalls : Option (List Call) → Option (List Call) → Type 0

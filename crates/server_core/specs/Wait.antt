@@ -11,7 +11,7 @@ use Rattle.server_core.specs.declared.admit.Kind.TheVariants.{Lingers, Reads}
 use Rattle.server_core.specs.declared.admit.Queue.{Queue}
 use Rattle.server_core.specs.declared.admit.Queue.TheVariants.{Empty, More, Full, Held, Unknown}
 use Rattle.server_core.specs.declared.admit.Waiting.{Waiting}
-use Rattle.server_core.specs.declared.host.Mark.{Mark}
+use Rattle.server_core.specs.declared.host.Readiness.{Readiness}
 
 -- its message isn't whole
 abbrev pub reads : Phase → Bool
@@ -109,20 +109,20 @@ gives_in now c Lingering = 0
 gives_in now c Closed = 0
 
 -- until there is something to do with a connection, if nothing happens
-abbrev pub idles : ℕ → Conn → Mark → Phase → ℕ
+abbrev pub idles : ℕ → Conn → Readiness → Phase → ℕ
 idles now c mark (Reading part) = if mark.readable then 0 else c.deadline - now
 idles now c mark Ready = c.deadline - now
 idles now c mark Writing = if mark.writable then 0 else c.deadline - now
 idles now c mark Lingering = if mark.readable then 0 else c.deadline - now
 idles now c mark Closed = 60000
 
-abbrev pub pause_at : Bool → ℕ → Conn → Mark → ℕ
+abbrev pub pause_at : Bool → ℕ → Conn → Readiness → ℕ
 pause_at full now c mark =
     if full then min (gives_in now c c.phase) (idles now c mark c.phase)
     else idles now c mark c.phase
 
 -- the least of all
-abbrev pub pauses : Bool → ℕ → ℕ → List Conn → List Mark → ℕ
+abbrev pub pauses : Bool → ℕ → ℕ → List Conn → List Readiness → ℕ
 pauses full now pause [] marks = pause
 pauses full now pause (c ∷ cs) [] = pause
 pauses full now pause (c ∷ cs) (m ∷ ms) =

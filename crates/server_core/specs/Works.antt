@@ -7,7 +7,7 @@ use Rattle.server_core.specs.Calls.{Io, Reads, Writes, how_many, is_failed_read,
 use Rattle.server_core.specs.Calls.{is_write}
 use Rattle.server_core.specs.Reads.{HasRead, HasWritten, listens}
 use Rattle.server_core.specs.Turns.{Answered}
-use Rattle.server_core.specs.declared.host.Mark.{Mark}
+use Rattle.server_core.specs.declared.host.Readiness.{Readiness}
 
 -- nothing was read at a place, or its stream once: no byte comes but from there
 abbrev pub HasReadAt : {S : Type 0} → (List ℕ → Option ℕ → Type 0) → (S → Option (List ℕ))
@@ -25,14 +25,14 @@ HasWrittenAt {S} now contents ios had old has new =
     ⊎ ((was : S) × (is : S) × (took : Option ℕ) × (ios ≡ Writes took ∷ []) × (had ≡ Some was)
     × (has ≡ Some is) × HasWritten now (contents was) (contents is) took old new)
 
-abbrev pub unmarked : Mark
+abbrev pub unmarked : Readiness
 unmarked = record { readable = false; writable = false }
 
-abbrev pub marked : Mark
+abbrev pub marked : Readiness
 marked = record { readable = true; writable = true }
 
 -- the marks after connections were accepted at these places
-abbrev pub marked_at : List ℕ → List Mark → List Mark
+abbrev pub marked_at : List ℕ → List Readiness → List Readiness
 marked_at [] marks = marks
 marked_at (place ∷ rest) marks = marked_at rest (set marks place marked)
 
@@ -44,7 +44,7 @@ IsLeft old new is ios = (new ≡ old) ⊎ ((new ≡ false) × (1 ≤ how_many is
 -- it is marked writable and its reply is on its way, or its message is answered now, what is left of
 -- the reply is offered. It is read at most twice and written at most once. A mark is taken away only
 -- by a read that failed, and by a write that failed or took nothing.
-abbrev pub WorksAt : Mark → Conn → Bool → List Io → Mark → Type 0
+abbrev pub WorksAt : Readiness → Conn → Bool → List Io → Readiness → Type 0
 WorksAt mark old answered ios left =
     (mark.readable ≡ true → listens old.phase ≡ true → 1 ≤ how_many is_read ios)
     × (mark.writable ≡ true → (old.phase ≡ Writing) ⊎ (answered ≡ true)
@@ -54,7 +54,7 @@ WorksAt mark old answered ios left =
     × IsLeft mark.writable left.writable is_idle_write ios
 
 -- the same at this place of all
-abbrev pub WorksAmong : List Mark → List Conn → List (Option Answered) → List (List Io) → List Mark
+abbrev pub WorksAmong : List Readiness → List Conn → List (Option Answered) → List (List Io) → List Readiness
     → ℕ → Type 0
 WorksAmong marks olds ms calls left place =
     WorksAt (get_or marks place unmarked) (get_or olds place closed) (is_some (get_or ms place None))
@@ -62,7 +62,7 @@ WorksAmong marks olds ms calls left place =
 
 -- the same of all places: their marks, their connections, the messages that are answered, the calls
 -- of their streams, and the marks that are left
-abbrev pub Works : List Mark → List Conn → List (Option Answered) → List (List Io) → List Mark → Type 0
+abbrev pub Works : List Readiness → List Conn → List (Option Answered) → List (List Io) → List Readiness → Type 0
 Works marks olds ms calls left =
     (length calls ≡ length olds)
     × ((place : ℕ) → place < length olds → WorksAmong marks olds ms calls left place)

@@ -10,7 +10,7 @@ ghost use Rattle.server_core.specs.Served.{IsAdmitted};
 ghost use Rattle.server_core.specs.Wait as wait;
 ghost use Rattle.server_core.specs.Wait.{IsLongest, IsToGiveWay, NoneGivesWay, longer_in, sooner_of};
 
-use crate::host::{Host, Mark};
+use crate::host::{Host, Readiness};
 use crate::slot::Slot;
 use connection_core::{Connection, Phase, READING};
 use std::alloc::Global;
@@ -176,7 +176,7 @@ fn admit_one<H: Host>(
     host: &mut H,
     now: u64,
     slots: &mut [Slot<H::Stream>],
-    marks: &mut [Mark],
+    marks: &mut [Readiness],
     faults: &mut u64,
 ) -> Queue
     requires { length slots.old ≤ length marks.old }
@@ -196,7 +196,7 @@ fn admit_one<H: Host>(
                 stream: Some(stream),
                 connection: Connection::open(alloc, now),
             };
-            marks[place] = Mark {
+            marks[place] = Readiness {
                 readable: true,
                 writable: true,
             };
@@ -221,7 +221,7 @@ pub(crate) fn admit<H: Host>(
     host: &mut H,
     now: u64,
     slots: &mut [Slot<H::Stream>],
-    marks: &mut [Mark],
+    marks: &mut [Readiness],
     faults: &mut u64,
 ) -> Queue
     requires { length slots.old ≤ length marks.old }

@@ -10,5 +10,5 @@ pub enum Ending {
     /// The desk can answer no message any more.
     Shut,
     /// It has had 2^64 - 1 turns.
-    Spent,
+    OutOfTurns,
 }

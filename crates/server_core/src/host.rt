@@ -11,7 +11,7 @@ use std::io;
 
 /// What a stream may be ready for.
 #[derive(Clone, Copy, Debug, PartialEq, Eq)]
-pub struct Mark {
+pub struct Readiness {
     pub readable: bool,
     pub writable: bool,
 }
@@ -75,7 +75,7 @@ pub trait Host {
 
     /// Waits for so many milliseconds at most, and marks what streams became ready for since the
     /// last call, each at its place. Whether a connection may wait.
-    fn wait(&mut self, milliseconds: u64, marks: &mut [Mark]) -> Result<bool, NetFault>
+    fn wait(&mut self, milliseconds: u64, marks: &mut [Readiness]) -> Result<bool, NetFault>
         ensures ok { OnOk result (told self.new ≡ told self.old) }
         ensures err { OnErr result (told self.new ≡ wait_fails (told self.old)) }
         ensures calls { IfOk result (λ comes. Adds (calls self.old) (calls self.new)

@@ -23,6 +23,6 @@ mod work;
 
 pub use desk::{Answer, Desk};
 pub use ending::Ending;
-pub use host::{Host, Mark, NetFault};
+pub use host::{Host, NetFault, Readiness};
 pub use server::serve;
 pub use slot::Slot;

@@ -16,7 +16,7 @@ ghost use Rattle.server_core.specs.Wait.{NoneGivesWay};
 use crate::admit::{GRACE, Queue, admit, is_closed};
 use crate::desk::Desk;
 use crate::ending::Ending;
-use crate::host::{Host, Mark, NetFault};
+use crate::host::{Host, NetFault, Readiness};
 use crate::slot::Slot;
 use crate::turn::turn;
 use crate::work::Moment;
@@ -62,7 +62,7 @@ pub fn serve<H: Host, D: Desk>(
     ensures err { OnErr result (desk.new ≡ desk.old) }
 {
     let mut slots = free_slots(alloc, places)?;
-    let unmarked = Mark {
+    let unmarked = Readiness {
         readable: false,
         writable: false,
     };
@@ -92,7 +92,7 @@ fn serve_at<H: Host, D: Desk>(
     host: &mut H,
     desk: &mut D,
     slots: &mut [Slot<H::Stream>],
-    marks: &mut [Mark],
+    marks: &mut [Readiness],
     buffer: &mut [u8],
     most: u64,
 ) -> Ending
@@ -111,7 +111,7 @@ fn serve_at<H: Host, D: Desk>(
             return Ending::Network;
         };
         queue = waiting;
-        answered += go_on(
+        answered += run_turn(
             alloc,
             host,
             desk,
@@ -126,14 +126,14 @@ fn serve_at<H: Host, D: Desk>(
             return ending;
         }
     }
-    Ending::Spent
+    Ending::OutOfTurns
 }
 
 /// Waits until there is something to do. Whether further connections wait.
 fn wait<H: Host>(
     host: &mut H,
     slots: &[Slot<H::Stream>],
-    marks: &mut [Mark],
+    marks: &mut [Readiness],
     queue: Queue,
 ) -> Result<Queue, NetFault>
     requires { length slots.now ≤ length marks.old }
@@ -166,12 +166,12 @@ fn left_for<D: Desk>(desk: &D, left: u64) -> u64
 
 /// Accepts connections, as long as messages may be answered, and gives each its turn. How many
 /// messages were answered.
-fn go_on<H: Host, D: Desk>(
+fn run_turn<H: Host, D: Desk>(
     alloc: Global,
     host: &mut H,
     desk: &mut D,
     slots: &mut [Slot<H::Stream>],
-    marks: &mut [Mark],
+    marks: &mut [Readiness],
     buffer: &mut [u8],
     queue: &mut Queue,
     faults: &mut u64,
@@ -211,7 +211,7 @@ fn admit_if<H: Host>(
     host: &mut H,
     now: u64,
     slots: &mut [Slot<H::Stream>],
-    marks: &mut [Mark],
+    marks: &mut [Readiness],
     queue: &mut Queue,
     faults: &mut u64,
     may: bool,
@@ -306,7 +306,7 @@ fn is_free<S>(slots: &[Slot<S>]) -> bool
 /// For how many milliseconds there is nothing to do, if nothing happens. Where a client may wait, no
 /// longer than until a place can be given to it: not at all, where one is free.
 #[tactic(auto, using(crate::proofs::PauseLemmas::free_none, crate::proofs::PauseLemmas::none_left))]
-fn pause_of<S>(slots: &[Slot<S>], marks: &[Mark], queue: Queue, now: u64) -> u64
+fn pause_of<S>(slots: &[Slot<S>], marks: &[Readiness], queue: Queue, now: u64) -> u64
     requires { length slots.now ≤ length marks.now }
     ensures is { result ≡ wait.pauses (wait.is_full queue) now (wait.begins queue) (conns slots.now)
         marks.now }
@@ -344,7 +344,7 @@ fn begin_of(queue: Queue) -> u64
 }
 
 /// The same of one connection.
-fn pause_at(full: bool, connection: &Connection, mark: Mark, now: u64) -> u64
+fn pause_at(full: bool, connection: &Connection, mark: Readiness, now: u64) -> u64
     ensures { result ≡ wait.pause_at full now (seen connection.now) mark }
 {
     let idle = idle_at(connection, mark, now);
@@ -369,7 +369,7 @@ fn giving_at(connection: &Connection, now: u64) -> u64
 
 /// Until there is something to do with it. One whose message is whole after a turn waits until
 /// others are gone: the count was reached.
-fn idle_at(connection: &Connection, mark: Mark, now: u64) -> u64
+fn idle_at(connection: &Connection, mark: Readiness, now: u64) -> u64
     ensures { result ≡ wait.idles now (seen connection.now) mark (seen connection.now).phase }
 {
     let until = connection.deadline().saturating_sub(now);

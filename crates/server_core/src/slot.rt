@@ -5,7 +5,7 @@ ghost use Rattle.connection_core.specs.declared.phase.Phase.TheVariants.{Closed}
 ghost use Rattle.server_core.specs.Calls.{Adds, At, Reads, Writes};
 ghost use Rattle.server_core.specs.Reads.{HasRead, HasWritten, KeepsMark, KeepsWritable};
 
-use crate::host::{Host, Mark};
+use crate::host::{Host, Readiness};
 use connection_core::{Connection, Framing, Phase};
 use std::alloc::Global;
 use std::io::ErrorKind;
@@ -26,7 +26,7 @@ pub fn read_some<F: Framing, H: Host>(
     place: usize,
     stream: &mut H::Stream,
     connection: &mut Connection,
-    mark: &mut Mark,
+    mark: &mut Readiness,
     buffer: &mut [u8],
 )
     requires { 0 < length buffer.old }
@@ -60,7 +60,7 @@ pub fn write_some<H: Host>(
     place: usize,
     stream: &mut H::Stream,
     connection: &mut Connection,
-    mark: &mut Mark,
+    mark: &mut Readiness,
     now: u64,
 )
     requires { (seen connection.old).phase ≡ Phase.Writing }

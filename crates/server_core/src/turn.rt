@@ -4,7 +4,7 @@ ghost use Rattle.server_core.specs.Places.{Each, TurnsOf, conns};
 ghost use Rattle.server_core.specs.Turns.{IsDone, at_minute, logged};
 
 use crate::desk::Desk;
-use crate::host::{Host, Mark};
+use crate::host::{Host, Readiness};
 use crate::slot::Slot;
 use crate::work::{Moment, work};
 use connection_core::Phase;
@@ -18,7 +18,7 @@ pub(crate) fn turn<H: Host, D: Desk>(
     moment: Moment,
     buffer: &mut [u8],
     slots: &mut [Slot<H::Stream>],
-    marks: &mut [Mark],
+    marks: &mut [Readiness],
     desk: &mut D,
     most: u64,
 ) -> u64

@@ -9,7 +9,7 @@ ghost use Rattle.server_core.specs.Works.{HasReadAt, HasWrittenAt, WorksAt};
 ghost use Rattle.server_core.specs.Turns.{Answered, IsDone, IsSettled, Moves, TakesTurn, at_minute, logged};
 
 use crate::desk::Desk;
-use crate::host::{Host, Mark};
+use crate::host::{Host, Readiness};
 use crate::slot::{Slot, read_some, write_some};
 use connection_core::{Connection, Framing, Phase};
 use std::alloc::Global;
@@ -28,7 +28,7 @@ fn receive<F: Framing, H: Host>(
     host: &mut H,
     place: usize,
     slot: &mut Slot<H::Stream>,
-    mark: &mut Mark,
+    mark: &mut Readiness,
     buffer: &mut [u8],
 )
     requires { 0 < length buffer.old }
@@ -127,7 +127,7 @@ fn write_at<F: Framing, H: Host>(
     host: &mut H,
     place: usize,
     slot: &mut Slot<H::Stream>,
-    mark: &mut Mark,
+    mark: &mut Readiness,
     now: u64,
 )
     requires marked { mark.old.writable ≡ true }
@@ -152,7 +152,7 @@ fn send<F: Framing, H: Host>(
     host: &mut H,
     place: usize,
     slot: &mut Slot<H::Stream>,
-    mark: &mut Mark,
+    mark: &mut Readiness,
     now: u64,
 )
     ensures moves { Moves F.States now (seen slot.old.connection) (seen slot.new.connection) }
@@ -182,7 +182,7 @@ fn settle<F: Framing, H: Host>(
     host: &mut H,
     place: usize,
     slot: &mut Slot<H::Stream>,
-    mark: &mut Mark,
+    mark: &mut Readiness,
     buffer: &mut [u8],
 )
     requires { 0 < length buffer.old }
@@ -216,7 +216,7 @@ pub(crate) fn work<H: Host, D: Desk>(
     buffer: &mut [u8],
     place: usize,
     slot: &mut Slot<H::Stream>,
-    mark: &mut Mark,
+    mark: &mut Readiness,
     desk: &mut D,
     may: bool,
 ) -> bool

@@ -4,8 +4,8 @@ use Rattle.sqlite.specs.Effect.{Database}
 use Rattle.sqlite.specs.State.{State}
 use Rattle.store_tables.proofs.ReadOn.{blames_failed}
 use Rattle.store_tables.proofs.Spared.{joined}
-use Rattle.store_tables.specs.Calls.{Spares}
-use Rattle.store_tables.specs.Readings.{Blames}
+use Rattle.store_tables.specs.Calls.{LeavesTables}
+use Rattle.store_tables.specs.Readings.{MismatchMeansBadRow}
 use Rattle.store_tables.specs.declared.fault.StoreFault.{StoreFault}
 use Rattle.service_core.specs.Attaching.{AreGood, GoodPersons, GoodQueues, GoodRequests, GoodStays}
 use Rattle.service_core.specs.Attaching.{StaysUnlessDone, TestsOrBlames}
@@ -14,16 +14,16 @@ use Rattle.service_core.proofs.LeftLemmas.{keeps_after, spared_keeps}
 
 -- a reading that failed blames what it blamed
 pub tests_failed : {X Y : Type 0} {a b : State} {e : StoreFault} {r : Result Y StoreFault}
-    → Blames {X = X} a b (Err e) → r ≡ Err e → TestsOrBlames a b r
+    → MismatchMeansBadRow {X = X} a b (Err e) → r ≡ Err e → TestsOrBlames a b r
 tests_failed it is = record { tested = rw is tt; blames = blames_failed it is }
 
 -- what spares the tables
-pub spared_unless_done : {r : Result Renewal StoreFault} {a b : State} → Spares a b
+pub spared_unless_done : {r : Result Renewal StoreFault} {a b : State} → LeavesTables a b
     → StaysUnlessDone r a b
 spared_unless_done kept = record { left = λ other. kept; keeps = spared_keeps kept }
 
 -- a renewal after it
-pub unless_done_after : {r : Result Renewal StoreFault} {a b c : State} → Spares a b
+pub unless_done_after : {r : Result Renewal StoreFault} {a b c : State} → LeavesTables a b
     → StaysUnlessDone r b c → StaysUnlessDone r a c
 unless_done_after first second = record {
   left = λ other. joined first (second.left other);

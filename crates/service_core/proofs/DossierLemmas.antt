@@ -20,7 +20,7 @@ use Rattle.desk_model.specs.Readings.Show.{shown_of}
 use Rattle.desk_model.specs.Step.{answer_of, guard}
 use Rattle.store_core.specs.Due.{TellsDue, due_of_row}
 use Rattle.store_tables.proofs.Spared.{stands}
-use Rattle.store_tables.specs.Calls.{Spares}
+use Rattle.store_tables.specs.Calls.{LeavesTables}
 use Rattle.store_tables.specs.Contents.{contents_of}
 use Rattle.service_core.specs.Dossiers.{DossierWhere, IsDossier, IsTold}
 use Rattle.service_core.specs.TableSteps.{ask_by}
@@ -105,7 +105,7 @@ pub told_where : (settings : Settings) (at : ℕ) (caller : List ℕ) (id : ℕ)
     → guard settings at caller (Show id) desk ≡ None)
     → TellsDue settings (λ desk dossier. facts ≡ facts_on_request desk id
     → IsTold settings at caller id desk dossier) old new result
-    → IfErr result (λ refusal. refusal ≡ Unavailable) → Spares old new
+    → IfErr result (λ refusal. refusal ≡ Unavailable) → LeavesTables old new
     → DossierWhere (λ desk. facts ≡ facts_on_request desk id) settings at caller id result old new
 told_where settings at caller id facts (Ok d) old new free told fault kept desk is seen stand clean = (
   told_both settings at caller id desk d is (free desk seen) (told desk is stand clean seen),

@@ -3,16 +3,16 @@ use Rattle.std.proofs.Common.{◌∙◌, refl}
 use Rattle.sqlite.specs.State.{State}
 use Rattle.sqlite.specs.Store.{Ghosts}
 use Rattle.store_tables.proofs.Lasting.{on, same}
-use Rattle.store_tables.specs.Calls.{Spares}
+use Rattle.store_tables.specs.Calls.{LeavesTables}
 use Rattle.service_core.specs.Leaves.{KeepsStore, LeavesDesk}
 use Rattle.service_core.specs.declared.desk.Desk.{Desk}
 
 -- what spares the tables keeps the store
-pub spared_keeps : {old new : State} → Spares old new → KeepsStore old new
+pub spared_keeps : {old new : State} → LeavesTables old new → KeepsStore old new
 spared_keeps kept = record { clean = kept.clean; lasts = kept.lasts }
 
 -- what keeps the store, after what spares its tables
-pub keeps_after : {a b c : State} → Spares a b → KeepsStore b c → KeepsStore a c
+pub keeps_after : {a b c : State} → LeavesTables a b → KeepsStore b c → KeepsStore a c
 keeps_after first second = record {
   clean = λ clean. first.clean (second.clean clean);
   lasts = on second.clean first.lasts second.lasts;

@@ -1,5 +1,6 @@
 pub mod AttachLemmas
 pub mod DossierLemmas
+mod Examples
 pub mod KnownLemmas
 pub mod Laws
 pub mod LeftLemmas

@@ -19,7 +19,7 @@ use Rattle.sqlite.specs.State.{State}
 use Rattle.report_core.specs.Rows.{QueuesRise}
 use Rattle.store_tables.specs.Contents.{Contents, contents_of, request_rows}
 use Rattle.store_tables.specs.Contents.Request.{Dated, dated_by, due_but, dues_but}
-use Rattle.store_tables.specs.Stands.{Stand}
+use Rattle.store_tables.specs.Stands.{HoldCommitted}
 use Rattle.store_tables.specs.declared.fault.StoreFault.{StoreFault}
 use Rattle.store_core.specs.Applying.{DatesDesk}
 use Rattle.store_core.specs.Due.{due_of_row}
@@ -189,6 +189,6 @@ renewed_from s queues stays dated dues old new (Ok x) made dates =
     made rise up
     ∙ ap (λ qs. renewals s qs stays dated) these
     ∙ ap₂ (renewals s desk.queues) all those in
-    subst (λ (c : Contents). Stand c new)
+    subst (λ (c : Contents). HoldCommitted c new)
     (ap (λ ds. contents_of (dues_but ds due) desk) made_of ∙ renewed_dues s desk due is)
     (dates desk due stand)

@@ -9,7 +9,7 @@ use Rattle.desk_model.specs.Desk.{Desk}
 use Rattle.desk_model.specs.Step.{Ask, Outcome, RunsBy}
 use Rattle.store_core.proofs.FactsLemmasOfDesk.{take_all}
 use Rattle.store_tables.specs.Calls.{WasClean}
-use Rattle.service_core.specs.TableSteps.{IsStep, RunsOn, StepsOn, ask_by}
+use Rattle.service_core.specs.TableSteps.{IsStep, RunsOn, StepOverTables, ask_by}
 use Rattle.service_core.specs.TableSteps.{ask_of, asks_of}
 
 pub run_more : {A B : Type 0} (Does : A → Desk → B → Desk → Type 0) (old : Desk) (asks : List A)
@@ -28,7 +28,7 @@ run_begins s tables desk is stand clean = (desk, (refl, is), stand)
 
 pub run_goes_on : (s : Settings) (asks : List Ask) (outcomes : List Outcome) (ask : Ask)
     (outcome : Outcome) (old mid new : State)
-    → RunsOn s asks outcomes old mid → WasClean mid new → StepsOn s ask outcome mid new
+    → RunsOn s asks outcomes old mid → WasClean mid new → StepOverTables s ask outcome mid new
     → RunsOn s (asks ++ ask ∷ []) (outcomes ++ outcome ∷ []) old new
 run_goes_on s asks outcomes ask outcome old mid new run honest step desk is stand clean =
     let so_far = run desk is stand (honest clean) in
@@ -53,15 +53,15 @@ pub run_on : {A : Type 0} (s t : Settings) (asked : List (ℕ × String A × Com
     → i < length asked → more ≡ outcomes ++ outcome ∷ [] → t ≡ s
     → item ≡ get_or asked i item → caller ≡ string_bytes item.1
     → RunsOn s (map ask_of (take i asked)) outcomes old mid → WasClean mid new
-    → StepsOn t (ask_by item.0 caller item.2) outcome mid new
+    → StepOverTables t (ask_by item.0 caller item.2) outcome mid new
     → RunsOn s (map ask_of (take (i + 1) asked)) more old new
 run_on s t asked i item caller outcomes more o old mid new low longer same is named run honest
     step =
     let asks = map ask_of (take i asked) in
     let by_name =
-    subst (λ (c : List ℕ). StepsOn t (ask_by item.0 c item.2) o mid new) named step in
+    subst (λ (c : List ℕ). StepOverTables t (ask_by item.0 c item.2) o mid new) named step in
     let by_settings =
-    subst (λ (x : Settings). StepsOn x (ask_of item) o mid new) same by_name in
+    subst (λ (x : Settings). StepOverTables x (ask_of item) o mid new) same by_name in
     let goes = run_goes_on s asks outcomes (ask_of item) o old mid new run honest by_settings in
     let grown = map_more ask_of asked i item low ∙ ap (λ x. asks ++ ask_of x ∷ []) (sym is) in
     subst (λ (xs : List Ask). RunsOn s xs more old new) (sym grown)

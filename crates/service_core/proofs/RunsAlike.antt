@@ -12,7 +12,7 @@ use Rattle.desk_model.specs.View.{view}
 use Rattle.desk_model.specs.declared.refusal.Refusal.TheVariants.{Unavailable}
 use Rattle.desk_core.proofs.Taken.{reads_of}
 use Rattle.desk_core.proofs.Unchanged.{reading_law}
-use Rattle.service_core.specs.Alike.{AnswersAlike}
+use Rattle.service_core.specs.Alike.{SameToCaller}
 use Rattle.service_core.specs.TableSteps.{IsStep}
 
 abbrev pub Reads : List ℕ → Ask → Type 0
@@ -63,7 +63,7 @@ runs_alike s caller (a ∷ asks) (o ∷ os) [] one other after after_other same 
     run run_other = absurd run_other
 
 pub answers_alike : {S T : Type 0} (g : Ghosts S) (h : Ghosts T) (s : Settings) (caller : List ℕ)
-    (asks : List Ask) → AnswersAlike g h s caller asks
+    (asks : List Ask) → SameToCaller g h s caller asks
 answers_alike g h s caller asks one other old new old_other new_other outcomes others is stand clean
     is_other stand_other clean_other same reads told told_other runs runs_other =
     let run = runs one is stand clean in

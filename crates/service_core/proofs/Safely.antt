@@ -8,13 +8,13 @@ use Rattle.desk_model.specs.Step.{Ask, Outcome, facts_of}
 use Rattle.desk_model.specs.declared.facts.Facts.{Facts}
 use Rattle.desk_model.specs.declared.refusal.Refusal.{Refusal}
 use Rattle.desk_model.specs.declared.refusal.Refusal.TheVariants.{Unavailable}
-use Rattle.store_core.specs.Due.{StandsDue, due_of_row}
+use Rattle.store_core.specs.Due.{RepresentsWithDue, due_of_row}
 use Rattle.store_tables.proofs.Spared.{stands, unread}
-use Rattle.store_tables.specs.Calls.{Spares}
+use Rattle.store_tables.specs.Calls.{LeavesTables}
 use Rattle.store_tables.specs.Contents.{contents_of}
 use Rattle.service_core.specs.Decided.{StepsSeeing}
 use Rattle.service_core.specs.Leaves.{StepsSafely}
-use Rattle.service_core.specs.TableSteps.{StepsOn}
+use Rattle.service_core.specs.TableSteps.{StepOverTables}
 use Rattle.service_core.proofs.LeftLemmas.{keeps_after, spared_keeps}
 use Rattle.service_core.proofs.Stepping.{spared_after, spared_by}
 
@@ -31,7 +31,7 @@ refused_safely Does tables refusal step = record {
 -- one that spares the tables, and whose refusal is that memory or the store refused
 pub spared_safely : (Does : Outcome → State → State → Type 0) (old new : State)
     (outcome : Outcome) → Does outcome old new
-    → IfErr outcome (λ refusal. refusal ≡ Unavailable) → Spares old new
+    → IfErr outcome (λ refusal. refusal ≡ Unavailable) → LeavesTables old new
     → StepsSafely Does old new outcome
 spared_safely Does old new outcome step fault kept = record {
   step = step;
@@ -42,10 +42,10 @@ spared_safely Does old new outcome step fault kept = record {
 -- a step of what is seen of the desk is the desk's own
 pub seen_safely : (facts : Facts) (s : Settings) (ask : Ask) (old mid new : State)
     (outcome : Outcome)
-    → ((desk : Desk) → IsDesk desk → StandsDue s desk old → HasCleanDisk mid
+    → ((desk : Desk) → IsDesk desk → RepresentsWithDue s desk old → HasCleanDisk mid
     → facts ≡ facts_of ask.command desk)
-    → Spares old mid → StepsSafely (StepsSeeing facts s ask) mid new outcome
-    → StepsSafely (StepsOn s ask) old new outcome
+    → LeavesTables old mid → StepsSafely (StepsSeeing facts s ask) mid new outcome
+    → StepsSafely (StepOverTables s ask) old new outcome
 seen_safely facts s ask old mid new outcome seen kept done = record {
   step = λ desk is stand clean.
       let stepped =

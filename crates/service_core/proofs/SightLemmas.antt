@@ -15,9 +15,9 @@ use Rattle.rights_core.specs.People.{holds, knows, no_roles}
 use Rattle.rights_core.specs.Right.{see_queue}
 use Rattle.rights_core.specs.declared.parts.Parts.{Parts}
 use Rattle.sorted_lists.proofs.Rising.{lesser}
-use Rattle.service_core.specs.Sight.{IsSight, lets_see}
-use Rattle.service_core.specs.declared.sight.Sight.{Sight}
-use Rattle.service_core.specs.declared.sight.Sight.TheVariants.{Nothing, One, Several}
+use Rattle.service_core.specs.QueueVisibility.{IsSight, lets_see}
+use Rattle.service_core.specs.declared.sight.QueueVisibility.{QueueVisibility}
+use Rattle.service_core.specs.declared.sight.QueueVisibility.TheVariants.{Nothing, One, Several}
 
 -- by all grants, of a person who is known
 pub known_sees : (people : Parts) (person name : List ℕ) → knows people person ≡ true
@@ -34,7 +34,7 @@ unknown_sees people person name e =
     sym (ap (λ b. b && list_any (lets_see people person name) people.grants) e)
 
 -- what is seen alike
-pub seen_alike : (sight : Sight) (f g : List ℕ → Bool) → ((name : List ℕ) → f name ≡ g name)
+pub seen_alike : (sight : QueueVisibility) (f g : List ℕ → Bool) → ((name : List ℕ) → f name ≡ g name)
     → IsSight sight f → IsSight sight g
 seen_alike Nothing f g same h = λ name. sym (same name) ∙ h name
 seen_alike (One one) f g same h = λ name. sym (same name) ∙ h name

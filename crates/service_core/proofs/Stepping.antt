@@ -15,22 +15,22 @@ use Rattle.desk_model.specs.Change.{applied}
 use Rattle.desk_model.specs.Commands.{IsReading, plan_of}
 use Rattle.desk_model.specs.Desk.{Desk}
 use Rattle.desk_model.specs.IsDesk.{IsDesk}
-use Rattle.desk_model.specs.Plan.{Call, Plan, Reads, answer_by, change_by, is_reading, seen_by}
-use Rattle.desk_model.specs.Plan.{told_of}
+use Rattle.desk_model.specs.Plan.{Call, Plan, Reads, answer_by, change_by, is_reading, facts_of_plan}
+use Rattle.desk_model.specs.Plan.{answer_of_change}
 use Rattle.desk_model.specs.Step.{answer_of}
 use Rattle.desk_model.specs.Step.{Ask, Outcome, Steps, call, desk_unless, effect, facts_of, guard}
 use Rattle.desk_model.specs.Step.{outcome_unless}
 use Rattle.store_core.proofs.WritableByKind.{change_writable}
 use Rattle.store_tables.proofs.Spared.{joined, stands}
-use Rattle.store_tables.specs.Calls.{Spares}
+use Rattle.store_tables.specs.Calls.{LeavesTables}
 use Rattle.store_tables.specs.Contents.{Contents, contents_of}
-use Rattle.store_tables.specs.Stands.{Stand}
+use Rattle.store_tables.specs.Stands.{HoldCommitted}
 use Rattle.store_core.specs.Due.{due_of_row}
 use Rattle.store_core.specs.Written.{IsWritable, dues_after}
 use Rattle.store_core.proofs.Renewed.{renewed}
 use Rattle.service_core.specs.Decided.{Answers, AnswersDue, CarriesOut, IsDecided, StepsSeeing}
 use Rattle.service_core.specs.Decided.{Writes}
-use Rattle.service_core.specs.TableSteps.{IsStep, StepsOn, ask_by}
+use Rattle.service_core.specs.TableSteps.{IsStep, StepOverTables, ask_by}
 use Rattle.service_core.proofs.Laws.{lawful}
 
 abbrev IsUnavailable : Refusal → Type 0
@@ -80,7 +80,7 @@ unchanged s ask desk reads =
     (reads_nothing ask.command (call s ask.at ask.caller) (facts_of ask.command desk) reads)
 
 answered_by_plan : (plan : Plan) (c : Call) (desk : Desk) → is_reading plan ≡ false
-    → told_of (change_by c (seen_by plan desk) plan) ≡ answer_by c desk plan
+    → answer_of_change (change_by c (facts_of_plan plan desk) plan) ≡ answer_by c desk plan
 answered_by_plan (Reads topic told) c desk writes = cc
 answered_by_plan other c desk writes = refl
 
@@ -88,9 +88,9 @@ answered_by_plan other c desk writes = refl
 answered_so : (s : Settings) (ask : Ask) (desk : Desk) (change : Change)
     → is_reading (plan_of ask.command) ≡ false
     → change ≡ change_of (call s ask.at ask.caller) (facts_of ask.command desk) ask.command
-    → told_of change ≡ answer_of s ask.at ask.caller ask.command desk
+    → answer_of_change change ≡ answer_of s ask.at ask.caller ask.command desk
 answered_so s ask desk change writes made =
-    ap told_of made ∙ answered_by_plan (plan_of ask.command) (call s ask.at ask.caller) desk writes
+    ap answer_of_change made ∙ answered_by_plan (plan_of ask.command) (call s ask.at ask.caller) desk writes
 
 parts : (facts : Facts) (change : Change) (s : Settings) (ask : Ask) (desk : Desk)
     → IsDecided facts change s ask desk
@@ -132,7 +132,7 @@ refused_step s ask desk refusal is refuses =
 -- ---- on tables
 
 pub unavailable_on : (s : Settings) (ask : Ask) (refusal : Refusal) (old new : State)
-    → refusal ≡ Unavailable → Spares old new → StepsOn s ask (Err refusal) old new
+    → refusal ≡ Unavailable → LeavesTables old new → StepOverTables s ask (Err refusal) old new
 unavailable_on s ask refusal old new same kept desk is stand clean = (
   desk,
   (lawful s ask desk (Err refusal) desk is (inl (ap Err same, refl)), is),
@@ -153,7 +153,7 @@ refused_seeing facts s ask refusal tables refuses desk is seen stand clean = (
 -- what every desk refuses
 pub refused_on : (s : Settings) (ask : Ask) (refusal : Refusal) (tables : State)
     → ((desk : Desk) → guard s ask.at ask.caller ask.command desk ≡ Some refusal)
-    → StepsOn s ask (Err refusal) tables tables
+    → StepOverTables s ask (Err refusal) tables tables
 refused_on s ask refusal tables always desk is stand clean = (
   desk,
   (refused_step s ask desk refusal is (λ known. always desk), is),
@@ -162,7 +162,7 @@ refused_on s ask refusal tables always desk is stand clean = (
 
 pub read_where : (facts : Facts) (change : Change) (s : Settings) (ask : Ask) (outcome : Outcome)
     (old new : State) → IsReading ask.command → AnswersDue s ask facts old new outcome
-    → IfErr outcome (λ refusal. refusal ≡ Unavailable) → Spares old new
+    → IfErr outcome (λ refusal. refusal ≡ Unavailable) → LeavesTables old new
     → CarriesOut facts change s ask outcome old new
 read_where facts change s ask (Ok answer) old new so told fault kept desk is holds stand clean =
     let decided = parts facts change s ask desk holds in (
@@ -200,8 +200,8 @@ asked_as facts s at caller command asked outcome old new same told =
 
 pub written_where : (facts : Facts) (change : Change) (s : Settings) (ask : Ask) (outcome : Outcome)
     (old new : State) → is_reading (plan_of ask.command) ≡ false
-    → IfOk outcome (λ answer. (answer ≡ told_of change) × Writes change old new)
-    → IfErr outcome (λ refusal. refusal ≡ Unavailable) → OnErr outcome (Spares old new)
+    → IfOk outcome (λ answer. (answer ≡ answer_of_change change) × Writes change old new)
+    → IfErr outcome (λ refusal. refusal ≡ Unavailable) → OnErr outcome (LeavesTables old new)
     → CarriesOut facts change s ask outcome old new
 written_where facts change s ask (Ok answer) old new so done_so fault kept desk is holds stand
     clean =
@@ -215,9 +215,9 @@ written_where facts change s ask (Ok answer) old new so done_so fault kept desk 
     (done_so.0 ∙ answered_so s ask desk change so decided.2) in (
       after,
       lawful s ask desk (Ok answer) after is step,
-      subst (λ (c : Contents). Stand c new)
+      subst (λ (c : Contents). HoldCommitted c new)
           (renewed s ask.at ask.caller ask.command desk is decided.1)
-          (subst (λ (c : Change). Stand (contents_of (dues_after c (due_of_row s desk))
+          (subst (λ (c : Change). HoldCommitted (contents_of (dues_after c (due_of_row s desk))
           (applied c desk)) new) decided.2
           (done_so.1 desk is fits (due_of_row s desk) stand)),
     )
@@ -240,12 +240,12 @@ decided_seeing facts change s ask outcome old new accepts made carries desk is s
     carries desk is (decide_so facts change s ask desk seen (accepts desk seen).0 made)
 
 -- what spares the tables spares them at a fault
-pub spared_by : {A E : Type 0} (r : Result A E) (old new : State) → Spares old new
-    → OnErr r (Spares old new)
+pub spared_by : {A E : Type 0} (r : Result A E) (old new : State) → LeavesTables old new
+    → OnErr r (LeavesTables old new)
 spared_by (Ok a) old new kept = tt
 spared_by (Err e) old new kept = kept
 
 pub spared_after : {X E : Type 0} (r : Result X E) (old mid new : State)
-    → Spares old mid → OnErr r (Spares mid new) → OnErr r (Spares old new)
+    → LeavesTables old mid → OnErr r (LeavesTables mid new) → OnErr r (LeavesTables old new)
 spared_after (Ok x) old mid new first then = tt
 spared_after (Err e) old mid new first then = joined first then

@@ -7,14 +7,14 @@ use Rattle.desk_model.specs.Step.{Ask, Outcome}
 use Rattle.desk_texts.proofs.DeskUnchanged.{unchanged_if_long}
 use Rattle.desk_texts.specs.Short.{is_short}
 use Rattle.store_tables.proofs.Spared.{unread}
-use Rattle.service_core.specs.TableSteps.{StepsOn}
+use Rattle.service_core.specs.TableSteps.{StepOverTables}
 use Rattle.service_core.proofs.Laws.{lawful}
 use Rattle.service_core.proofs.Stepping.{unavailable_on}
 
 -- a command that was done, and whose text is long: it only read
 pub left_out_if_long : (s : Settings) (ask : Ask) (outcome : Outcome) (old new : State)
-    → is_short outcome ≡ false → StepsOn s ask outcome old new
-    → StepsOn s ask (Err Unavailable) old new
+    → is_short outcome ≡ false → StepOverTables s ask outcome old new
+    → StepOverTables s ask (Err Unavailable) old new
 left_out_if_long s ask outcome old new long steps desk is stand clean =
     let done = steps desk is stand clean in
     let same =
@@ -26,7 +26,7 @@ left_out_if_long s ask outcome old new long steps desk is stand clean =
 
 -- one for whose text there was no room
 pub left_out : (s : Settings) (ask : Ask) (tables : State)
-    → StepsOn s ask (Err Unavailable) tables tables
+    → StepOverTables s ask (Err Unavailable) tables tables
 left_out s ask tables = unavailable_on s ask Unavailable tables tables refl (unread tables)
 
 -- what holds anyway holds at an error

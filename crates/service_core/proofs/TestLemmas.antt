@@ -5,7 +5,7 @@ use Rattle.sqlite.specs.Order.{Row}
 use Rattle.sqlite.specs.State.{State}
 use Rattle.sqlite.specs.Term.{Term}
 use Rattle.std.specs.Prelude.{List, ℕ}
-use Rattle.store_tables.specs.Calls.{Spares, TestsAll}
+use Rattle.store_tables.specs.Calls.{LeavesTables, ValidatesTable}
 use Rattle.store_tables.specs.Contents.{HasBadRow}
 use Rattle.store_tables.specs.declared.fault.StoreFault.{StoreFault}
 use Rattle.store_tables.proofs.Spared.{there_still}
@@ -13,7 +13,7 @@ use Rattle.service_core.specs.Attaching.{Tests}
 
 -- a reading of a whole table that goes well tests it
 pub tests_of : {X : Type 0} {tree : ℕ} {terms : List Term} {IsValue : Row → Type 0} {a b : State}
-    {x : X} → (let r : Result X StoreFault = Ok x in TestsAll tree terms IsValue a b r)
+    {x : X} → (let r : Result X StoreFault = Ok x in ValidatesTable tree terms IsValue a b r)
     → Tests (λ db. ¬ HasBadRow tree terms IsValue db) a b
 tests_of it = record {
   good = λ there clean. it.good (λ d o. (there d o).0) clean;
@@ -21,7 +21,7 @@ tests_of it = record {
 }
 
 -- what is tested later was so before
-pub tests_then : {P Q : Database → Type 0} {a b c : State} → Spares a b → Spares b c → Tests P a b
+pub tests_then : {P Q : Database → Type 0} {a b c : State} → LeavesTables a b → LeavesTables b c → Tests P a b
     → Tests Q b c → Tests (λ db. P db × Q db) a c
 tests_then {Q = Q} first second one other = record {
   good = λ there clean. (

@@ -13,7 +13,7 @@ use Rattle.desk_model.specs.View.{view}
 use Rattle.desk_model.specs.declared.refusal.Refusal.TheVariants.{Unavailable}
 use Rattle.desk_reports.specs.declared.fault.StreamFault.{StreamFault}
 use Rattle.desk_reports.specs.declared.fault.StreamFault.TheVariants.{Refused, Write}
-use Rattle.store_core.specs.Due.{StandsDue}
+use Rattle.store_core.specs.Due.{RepresentsWithDue}
 use Rattle.stream_core.specs.Written.{IsWritten}
 use Rattle.service_core.specs.Streaming.{StreamsOn, is_write}
 use Rattle.service_core.specs.TableSteps.{RunsOn}
@@ -28,13 +28,13 @@ AreAnswered outcomes = All (λ outcome. outcome ≢ Err Unavailable) outcomes
 
 -- Two desks that a caller sees alike answer that caller's reading commands alike: lists of commands
 -- on tables that stand for them have the same outcomes, where none was out of memory.
-abbrev pub AnswersAlike : {S T : Type 0} → Ghosts S → Ghosts T → Settings → List ℕ → List Ask
+abbrev pub SameToCaller : {S T : Type 0} → Ghosts S → Ghosts T → Settings → List ℕ → List Ask
     → Type 0
-AnswersAlike {S} {T} g h settings caller asks =
+SameToCaller {S} {T} g h settings caller asks =
     (one other : Desk) (old new : Held S) (old_other new_other : Held T)
     (outcomes others : List Outcome)
-    → IsDesk one → StandsDue settings one (state g old) → HasCleanDisk (state g new)
-    → IsDesk other → StandsDue settings other (state h old_other)
+    → IsDesk one → RepresentsWithDue settings one (state g old) → HasCleanDisk (state g new)
+    → IsDesk other → RepresentsWithDue settings other (state h old_other)
     → HasCleanDisk (state h new_other)
     → view settings caller one ≡ view settings caller other
     → AreReadingsOf caller asks → AreAnswered outcomes → AreAnswered others
@@ -59,8 +59,8 @@ WritesAlike {S} {T} g h settings ask =
     (one other : Desk) (old new : Held S) (old_other new_other : Held T)
     (result other_result : Result ⊤ StreamFault)
     (before after before_other after_other : Option (List ℕ))
-    → IsDesk one → StandsDue settings one (state g old) → HasCleanDisk (state g new)
-    → IsDesk other → StandsDue settings other (state h old_other)
+    → IsDesk one → RepresentsWithDue settings one (state g old) → HasCleanDisk (state g new)
+    → IsDesk other → RepresentsWithDue settings other (state h old_other)
     → HasCleanDisk (state h new_other)
     → view settings ask.caller one ≡ view settings ask.caller other
     → IsReading ask.command → IsWhole result → IsWhole other_result

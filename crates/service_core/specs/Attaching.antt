@@ -15,7 +15,7 @@ use Rattle.desk_model.specs.Known.{is_known, knows_queue, knows_row}
 use Rattle.store_tables.specs.declared.fault.StoreFault.{StoreFault}
 use Rattle.store_tables.specs.declared.fault.StoreFault.TheVariants.{Refused}
 use Rattle.sqlite.specs.Effect.{Database}
-use Rattle.store_tables.specs.Calls.{AreThere, Spares}
+use Rattle.store_tables.specs.Calls.{AreThere, LeavesTables}
 use Rattle.store_tables.specs.Contents.{Contents, HasBadRow, actors}
 use Rattle.store_tables.specs.Contents.Entry.{IsBareEntry, bare_shown, entry}
 use Rattle.store_tables.specs.Contents.Link.{IsLinkRow, link}
@@ -24,8 +24,8 @@ use Rattle.store_tables.specs.Contents.Request.{IsDatedRow, dated_shown_terms, r
 use Rattle.store_tables.specs.Contents.Stay.{IsStayRow, stay, stay_shown}
 use Rattle.store_tables.specs.Contents.Watcher.{IsWatcherRow, watcher}
 use Rattle.store_tables.specs.Query.{three_shown}
-use Rattle.store_tables.specs.Readings.{Blames}
-use Rattle.store_tables.specs.Stands.{Stand, StandsFor}
+use Rattle.store_tables.specs.Readings.{MismatchMeansBadRow}
+use Rattle.store_tables.specs.Stands.{HoldCommitted, Represents}
 use Rattle.service_core.specs.Leaves.{KeepsStore}
 use Rattle.service_core.specs.Renewing.{AreRenewed}
 use Rattle.service_core.specs.Seen.{settings_of, tables_of}
@@ -38,13 +38,13 @@ use Rattle.service_core.specs.declared.renewal.Renewal.TheVariants as renewal
 -- whether the settings know each name of whatever desk the tables stand for
 abbrev pub TellsKnown : Settings → State → State → Bool → Type 0
 TellsKnown settings old new known =
-    (desk : Desk) → IsDesk desk → StandsFor desk old → HasCleanDisk new
+    (desk : Desk) → IsDesk desk → Represents desk old → HasCleanDisk new
     → is_known settings desk ≡ known
 
 -- over tables that hold values, the fault is an unknown name, or the store or memory refused it
 abbrev pub FailsOver : State → State → AttachFault → Type 0
 FailsOver old new fault =
-    (c : Contents) → Stand c old → HasCleanDisk new
+    (c : Contents) → HoldCommitted c old → HasCleanDisk new
     → (fault ≡ UnknownName) ⊎ ((fault ≡ NoMemory) ⊎ (fault ≡ Store Refused))
 
 -- the fault is an unknown name, want of memory, or one of the store that blames a row only where
@@ -53,7 +53,7 @@ abbrev pub BlamesBad : State → State → AttachFault → Type 0
 BlamesBad old new fault =
     (fault ≡ UnknownName) ⊎ ((fault ≡ NoMemory)
     ⊎ ((e : StoreFault) × (fault ≡ Store e)
-    × (let r : Result ⊤ StoreFault = Err e in Blames old new r)))
+    × (let r : Result ⊤ StoreFault = Err e in MismatchMeansBadRow old new r)))
 
 -- whether no name of the tables was unknown
 abbrev pub knows_names : Renewal → Bool
@@ -97,8 +97,8 @@ pub record GoodPersons (db : Database) : Type 0 where
   pub watchers : GoodWatchers db
 
 -- where the tables are there, no row that they had is bad
-abbrev pub TestsRows : State → State → Type 0
-TestsRows old new = AreThere old → HasCleanDisk new → AreGood old.now
+abbrev pub AllRowsValid : State → State → Type 0
+AllRowsValid old new = AreThere old → HasCleanDisk new → AreGood old.now
 
 -- some of them are tested so, and nothing has changed
 pub record Tests (P : Database → Type 0) (old new : State) : Type 0 where
@@ -108,15 +108,15 @@ pub record Tests (P : Database → Type 0) (old new : State) : Type 0 where
 -- each row is tested, or the fault blames a row only where one is bad
 pub record TestsOrBlames {A : Type 0} (old new : State) (result : Result A StoreFault) :
     Type 0 where
-  pub tested : OnOk result (TestsRows old new)
-  pub blames : Blames old new result
+  pub tested : OnOk result (AllRowsValid old new)
+  pub blames : MismatchMeansBadRow old new result
 
 -- ---- what is left, and what is answered
 
 -- The store is kept. Unless due moments were renewed its tables stay as they are, whatever rows
 -- they have.
 pub record StaysUnlessDone (result : Result Renewal StoreFault) (old new : State) : Type 0 where
-  pub left : result ≢ Ok renewal.Done → Spares old new
+  pub left : result ≢ Ok renewal.Done → LeavesTables old new
   pub keeps : KeepsStore old new
 
 -- A desk with the settings that were attached: each row was tested, they know each name, and the
@@ -124,14 +124,14 @@ pub record StaysUnlessDone (result : Result Renewal StoreFault) (old new : State
 pub record IsAttached {S : Type 0} (g : Ghosts S) (settings : Settings) (old : State)
     (desk : over_tables.Desk S g) : Type 0 where
   pub same : settings_of g desk ≡ settings
-  pub tested : TestsRows old (tables_of g desk)
+  pub tested : AllRowsValid old (tables_of g desk)
   pub known : TellsKnown settings old (tables_of g desk) true
   pub renewed : AreRenewed settings old (tables_of g desk)
   pub keeps : KeepsStore old (tables_of g desk)
 
 -- the settings lack a name of the tables, of which each row was tested first
 pub record LacksName (settings : Settings) (old new : State) : Type 0 where
-  pub tested : TestsRows old new
+  pub tested : AllRowsValid old new
   pub unknown : TellsKnown settings old new false
 
 -- why settings were not attached: what it may be over tables that hold values, and over any
@@ -141,8 +141,8 @@ pub record IsFaultOver (old new : State) (cause : AttachFault) : Type 0 where
 
 -- what is left of a store that is given back: it is spared, and its tables stand for the same desk
 pub record IsGivenBack (old new : State) : Type 0 where
-  pub spared : Spares old new
-  pub stands : (desk : Desk) → StandsFor desk old → StandsFor desk new
+  pub spared : LeavesTables old new
+  pub stands : (desk : Desk) → Represents desk old → Represents desk new
 
 -- ---- what is asked of the rows
 

@@ -13,16 +13,16 @@ use Rattle.desk_core.specs.Decision.{change_of}
 use Rattle.desk_model.specs.Step.{Ask, Outcome, answer_of, call, facts_of, guard}
 use Rattle.store_tables.specs.Calls.{Tells}
 use Rattle.store_tables.specs.Contents.{contents_of}
-use Rattle.store_tables.specs.Stands.{Stand}
-use Rattle.store_core.specs.Due.{StandsDue, TellsDue}
+use Rattle.store_tables.specs.Stands.{HoldCommitted}
+use Rattle.store_core.specs.Due.{RepresentsWithDue, TellsDue}
 use Rattle.store_core.specs.Written.{IsWritable, dues_after}
 use Rattle.service_core.specs.TableSteps.{IsStep}
 
 -- from whatever desk the tables stand for, of which this holds, the command makes a step
 abbrev pub StepsWhere : (Desk → Type 0) → Settings → Ask → Outcome → State → State → Type 0
 StepsWhere Holds settings ask outcome old new =
-    (desk : Desk) → IsDesk desk → Holds desk → StandsDue settings desk old → HasCleanDisk new
-    → (after : Desk) × IsStep settings ask desk outcome after × StandsDue settings after new
+    (desk : Desk) → IsDesk desk → Holds desk → RepresentsWithDue settings desk old → HasCleanDisk new
+    → (after : Desk) × IsStep settings ask desk outcome after × RepresentsWithDue settings after new
 
 -- where the command sees this
 abbrev pub StepsSeeing : Facts → Settings → Ask → Outcome → State → State → Type 0
@@ -46,8 +46,8 @@ CarriesOut facts change settings ask =
 abbrev pub Writes : Change → State → State → Type 0
 Writes change old new =
     (desk : Desk) → IsDesk desk → IsWritable desk change → (due : RequestRow → Option ℕ)
-    → Stand (contents_of due desk) old
-    → Stand (contents_of (dues_after change due) (applied change desk)) new
+    → HoldCommitted (contents_of due desk) old
+    → HoldCommitted (contents_of (dues_after change due) (applied change desk)) new
 
 -- an answer to the command is its own, of a desk of which it sees this
 abbrev pub IsAnswerTo : Settings → Ask → Facts → Desk → Answer → Type 0

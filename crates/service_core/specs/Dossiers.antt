@@ -10,7 +10,7 @@ use Rattle.desk_model.specs.Desk.{Desk}
 use Rattle.desk_model.specs.IsDesk.{IsDesk}
 use Rattle.desk_model.specs.Readings.Dossier.{IsOfQueue, history_in, shown_in}
 use Rattle.desk_model.specs.Step.{answer_of}
-use Rattle.store_core.specs.Due.{StandsDue}
+use Rattle.store_core.specs.Due.{RepresentsWithDue}
 use Rattle.service_core.specs.TableSteps.{IsStep, ask_by}
 
 -- both readings are steps of the desk, which stays, and the queue is that of the request
@@ -24,14 +24,14 @@ pub record IsDossier (settings : Settings) (at : ℕ) (caller : List ℕ) (id : 
 abbrev pub DossierWhere : (Desk → Type 0) → Settings → ℕ → List ℕ → ℕ → Result Dossier Refusal
     → State → State → Type 0
 DossierWhere Holds settings at caller id result old new =
-    (desk : Desk) → IsDesk desk → Holds desk → StandsDue settings desk old → HasCleanDisk new
-    → IsDossier settings at caller id desk result × StandsDue settings desk new
+    (desk : Desk) → IsDesk desk → Holds desk → RepresentsWithDue settings desk old → HasCleanDisk new
+    → IsDossier settings at caller id desk result × RepresentsWithDue settings desk new
 
 -- whatever desk the tables stand for, this is told of it, and it stays
 abbrev pub DossierOn : Settings → ℕ → List ℕ → ℕ → Result Dossier Refusal → State → State → Type 0
 DossierOn settings at caller id result old new =
-    (desk : Desk) → IsDesk desk → StandsDue settings desk old → HasCleanDisk new
-    → IsDossier settings at caller id desk result × StandsDue settings desk new
+    (desk : Desk) → IsDesk desk → RepresentsWithDue settings desk old → HasCleanDisk new
+    → IsDossier settings at caller id desk result × RepresentsWithDue settings desk new
 
 -- the answers of both readings, and the queue
 pub record IsTold (settings : Settings) (at : ℕ) (caller : List ℕ) (id : ℕ) (desk : Desk)

@@ -10,7 +10,7 @@ pub mod Loading
 pub mod Renewing
 pub mod Seen
 pub mod Shown
-pub mod Sight
+pub mod QueueVisibility
 pub mod Streaming
 pub mod TableSteps
 pub mod Telling

@@ -15,8 +15,8 @@ use Rattle.report_core.specs.Rows.{queue_among}
 use Rattle.store_tables.specs.Contents.{contents_of}
 use Rattle.store_tables.specs.Contents.Request.{Dated}
 use Rattle.store_tables.specs.Contents.Stay.{request_stay, stays}
-use Rattle.store_tables.specs.Stands.{Stand, StandsFor}
-use Rattle.store_core.specs.Due.{StandsDue, due_of_row}
+use Rattle.store_tables.specs.Stands.{HoldCommitted, Represents}
+use Rattle.store_core.specs.Due.{RepresentsWithDue, due_of_row}
 use Rattle.store_core.specs.Rows.{dated_rows}
 
 abbrev pub is_same_moment : Option ℕ → Option ℕ → Bool
@@ -62,7 +62,7 @@ renewals settings queues stays dated =
 -- whatever due moments the tables kept beside the desk that they stood for, they keep the desk's
 abbrev pub AreRenewed : Settings → State → State → Type 0
 AreRenewed settings old new =
-    (desk : Desk) → IsDesk desk → StandsFor desk old → StandsDue settings desk new
+    (desk : Desk) → IsDesk desk → Represents desk old → RepresentsWithDue settings desk new
 
 -- the moment that the tables keep for each request is the one at which it is due on the desk
 abbrev pub KeepDues : Settings → Desk → Type 0
@@ -79,5 +79,5 @@ abbrev pub AreRenewedFrom : Settings → List QueueRow → List (ℕ × Stay) �
     → Type 0
 AreRenewedFrom settings queues stays dated old new =
     (desk : Desk) → IsDesk desk → (due : RequestRow → Option ℕ) → queues ≡ desk.queues
-    → stays ≡ all_stays desk → dated ≡ dated_rows due desk → Stand (contents_of due desk) old
-    → StandsDue settings desk new
+    → stays ≡ all_stays desk → dated ≡ dated_rows due desk → HoldCommitted (contents_of due desk) old
+    → RepresentsWithDue settings desk new

@@ -14,8 +14,8 @@ use Rattle.desk_model.specs.declared.refusal.Refusal.TheVariants.{Unavailable}
 use Rattle.desk_reports.specs.declared.fault.StreamFault.{StreamFault}
 use Rattle.desk_reports.specs.declared.fault.StreamFault.TheVariants.{Refused, Write}
 use Rattle.desk_texts.specs.Texts.{answer_text}
-use Rattle.store_core.specs.Due.{StandsDue}
-use Rattle.store_tables.specs.Calls.{Spares}
+use Rattle.store_core.specs.Due.{RepresentsWithDue}
+use Rattle.store_tables.specs.Calls.{LeavesTables}
 use Rattle.stream_core.specs.Seen.{has_write_failed}
 use Rattle.stream_core.specs.Written.{Prints}
 use Rattle.stream_core.specs.declared.writer.CountedWriter.{CountedWriter}
@@ -52,7 +52,7 @@ abbrev pub StreamsOn : Settings → Ask → State → State → Result ⊤ Strea
     → Type 0
 StreamsOn settings ask old new result Printed =
     (printed : List ℕ) × Printed printed
-    × ((desk : Desk) → IsDesk desk → StandsDue settings desk old → HasCleanDisk new
+    × ((desk : Desk) → IsDesk desk → RepresentsWithDue settings desk old → HasCleanDisk new
     → IsStreamed settings ask desk result printed)
 
 -- whether a write failed
@@ -69,7 +69,7 @@ pub record StreamsSafely {W : Type 0}
     (result : Result ⊤ StreamFault) : Type 0 where
   pub streamed : Streams old new result (Prints contents before after)
   pub failed : has_write_failed after ≡ is_write result
-  pub kept : Spares old new
+  pub kept : LeavesTables old new
 
 -- ---- once it is decided
 
@@ -84,7 +84,7 @@ IsAdmitted settings ask desk (Err refusal) =
 -- so it is of whatever desk the tables stand for
 abbrev pub Admits : Settings → Ask → Result ⊤ Refusal → State → State → Type 0
 Admits settings ask result old new =
-    (desk : Desk) → IsDesk desk → StandsDue settings desk old → HasCleanDisk new
+    (desk : Desk) → IsDesk desk → RepresentsWithDue settings desk old → HasCleanDisk new
     → IsAdmitted settings ask desk result
 
 -- the same of whatever desk they stand for on which the command isn't refused
@@ -93,5 +93,5 @@ abbrev pub StreamsAdmitted : Settings → Ask → State → State → Result ⊤
 StreamsAdmitted settings ask old new result Printed =
     (printed : List ℕ) × Printed printed
     × ((desk : Desk) → IsDesk desk → guard settings ask.at ask.caller ask.command desk ≡ None
-    → StandsDue settings desk old → HasCleanDisk new
+    → RepresentsWithDue settings desk old → HasCleanDisk new
     → IsStreamed settings ask desk result printed)

@@ -9,7 +9,7 @@ use Rattle.desk_model.specs.IsDesk.{IsDesk}
 use Rattle.desk_core.specs.Lawful.{IsLawful}
 use Rattle.desk_core.specs.Laws.{Step}
 use Rattle.desk_model.specs.Step.{Ask, Outcome, RunsBy, Steps}
-use Rattle.store_core.specs.Due.{StandsDue}
+use Rattle.store_core.specs.Due.{RepresentsWithDue}
 
 -- a command as a step of the desk
 abbrev pub as_step : Settings → Ask → Desk → Outcome → Desk → Step
@@ -33,25 +33,25 @@ pub record IsStep (settings : Settings) (ask : Ask) (old : Desk) (outcome : Outc
 
 -- whatever desk the tables stand for before a call, with its due moments, afterwards they stand for
 -- one to which `Leads` leads from it, with its own, and which is well formed as well
-abbrev pub LeadsOn : Settings → (Desk → Desk → Type 0) → State → State → Type 0
-LeadsOn settings Leads old new =
-    (desk : Desk) → IsDesk desk → StandsDue settings desk old → HasCleanDisk new
-    → (after : Desk) × (Leads desk after × IsDesk after) × StandsDue settings after new
+abbrev pub OverTables : Settings → (Desk → Desk → Type 0) → State → State → Type 0
+OverTables settings Leads old new =
+    (desk : Desk) → IsDesk desk → RepresentsWithDue settings desk old → HasCleanDisk new
+    → (after : Desk) × (Leads desk after × IsDesk after) × RepresentsWithDue settings after new
 
 -- one step
-abbrev pub StepsOn : Settings → Ask → Outcome → State → State → Type 0
-StepsOn settings ask outcome =
-    LeadsOn settings (λ desk after. IsStep settings ask desk outcome after)
+abbrev pub StepOverTables : Settings → Ask → Outcome → State → State → Type 0
+StepOverTables settings ask outcome =
+    OverTables settings (λ desk after. IsStep settings ask desk outcome after)
 
 -- a run of steps, each from the desk that the one before left
 abbrev pub RunsOn : Settings → List Ask → List Outcome → State → State → Type 0
 RunsOn settings asks outcomes =
-    LeadsOn settings (λ desk after. RunsBy (IsStep settings) desk asks outcomes after)
+    OverTables settings (λ desk after. RunsBy (IsStep settings) desk asks outcomes after)
 
 -- the tables stand for whatever desk they stood for, with its due moments
-abbrev pub StandsOn : Settings → State → State → Type 0
-StandsOn settings old new =
-    (desk : Desk) → StandsDue settings desk old → StandsDue settings desk new
+abbrev pub RepresentsSame : Settings → State → State → Type 0
+RepresentsSame settings old new =
+    (desk : Desk) → RepresentsWithDue settings desk old → RepresentsWithDue settings desk new
 
 abbrev pub ask_by : ℕ → List ℕ → Command → Ask
 ask_by at caller command = record { at = at; caller = caller; command = command }

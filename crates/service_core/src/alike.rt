@@ -7,7 +7,7 @@ ghost use Rattle.settings_core.specs.declared.settings.Settings.{Settings};
 ghost use Rattle.desk_model.specs.Step.{Ask};
 ghost use Rattle.find_core.specs.declared.search.Place.{Place};
 ghost use Rattle.find_core.specs.declared.search.Search.{Search};
-ghost use Rattle.service_core.specs.Alike.{AnswersAlike, WritesAlike};
+ghost use Rattle.service_core.specs.Alike.{SameToCaller, WritesAlike};
 ghost use Rattle.service_core.specs.Finding.{FindsAlike};
 ghost use Rattle.service_core.specs.Loading.{LoadsAlike};
 
@@ -15,14 +15,14 @@ use store_core::Backend;
 
 /// Nothing leaks by reading: two desks that a caller sees alike give that caller equal answers, for
 /// each list of the caller's reading commands, where none was out of memory.
-pub fn alike_law<S: Backend, T: Backend>()
+pub fn noninterference_law<S: Backend, T: Backend>()
     ensures { (settings : Settings) (caller : List ℕ) (asks : List Ask)
-        → AnswersAlike S.Store T.Store settings caller asks }
+        → SameToCaller S.Store T.Store settings caller asks }
 {}
 
 /// Nothing leaks by writing row by row: two desks that a caller sees alike write that caller one
 /// text, where no write failed and none was out of memory.
-pub fn written_alike_law<S: Backend, T: Backend>()
+pub fn written_noninterference_law<S: Backend, T: Backend>()
     ensures { (settings : Settings) (ask : Ask) → WritesAlike S.Store T.Store settings ask }
 {}
 

@@ -4,16 +4,16 @@
 //! would be taken apart for each function's own proof.
 ghost use Rattle.std.specs.Prelude.{◌≡◌, ◌&&◌, map, IfErr, IfOk, Ok, OnOk};
 ghost use Rattle.desk_model.specs.Known as known;
-ghost use Rattle.store_tables.specs.Calls.{Spares, Tells};
+ghost use Rattle.store_tables.specs.Calls.{LeavesTables, Tells};
 ghost use Rattle.store_tables.specs.Contents.{watchers};
 ghost use Rattle.store_tables.specs.Contents.Request.{row_of};
-ghost use Rattle.store_tables.specs.Readings.{Blames};
+ghost use Rattle.store_tables.specs.Readings.{MismatchMeansBadRow};
 ghost use Rattle.store_core.specs.Seen.{state_of};
 ghost use Rattle.report_core.specs.Rows.{QueuesRise};
 ghost use Rattle.service_core.specs.Attaching as attaching;
 ghost use Rattle.service_core.specs.Attaching.{GoodEntries, GoodLinks, GoodPersons, IsAttached};
 ghost use Rattle.service_core.specs.Attaching.{IsFaultOver, IsGivenBack, LacksName};
-ghost use Rattle.service_core.specs.Attaching.{StaysUnlessDone, Tests, TestsOrBlames, TestsRows};
+ghost use Rattle.service_core.specs.Attaching.{StaysUnlessDone, Tests, TestsOrBlames, AllRowsValid};
 ghost use Rattle.service_core.specs.Attaching.{knows_names};
 ghost use Rattle.service_core.specs.Renewing.{AreRenewed};
 
@@ -80,9 +80,9 @@ pub fn knows_tables<S: Backend>(
     ensures told { Tells (λ desk knows. known.is_known settings.now desk ≡ knows)
         (state_of S.Store store.old) (state_of S.Store store.new) result }
     ensures tested { OnOk result
-        (TestsRows (state_of S.Store store.old) (state_of S.Store store.new)) }
-    ensures kept { Spares (state_of S.Store store.old) (state_of S.Store store.new) }
-    ensures fault { Blames
+        (AllRowsValid (state_of S.Store store.old) (state_of S.Store store.new)) }
+    ensures kept { LeavesTables (state_of S.Store store.old) (state_of S.Store store.new) }
+    ensures fault { MismatchMeansBadRow
         (state_of S.Store store.old) (state_of S.Store store.new) result }
 {
     let dated = store.dated_requests(alloc)?;
@@ -133,8 +133,8 @@ fn is_known<S: Backend>(
         (state_of S.Store store.old) (state_of S.Store store.new) result }
     ensures tested { OnOk result
         (Tests GoodPersons (state_of S.Store store.old) (state_of S.Store store.new)) }
-    ensures kept { Spares (state_of S.Store store.old) (state_of S.Store store.new) }
-    ensures fault { Blames
+    ensures kept { LeavesTables (state_of S.Store store.old) (state_of S.Store store.new) }
+    ensures fault { MismatchMeansBadRow
         (state_of S.Store store.old) (state_of S.Store store.new) result }
 {
     read_links(alloc, store)?;
@@ -148,8 +148,8 @@ fn is_known<S: Backend>(
 fn read_links<S: Backend>(alloc: Global, store: &mut Store<S>) -> Result<(), StoreFault>
     ensures tested { OnOk result
         (Tests GoodLinks (state_of S.Store store.old) (state_of S.Store store.new)) }
-    ensures kept { Spares (state_of S.Store store.old) (state_of S.Store store.new) }
-    ensures fault { Blames
+    ensures kept { LeavesTables (state_of S.Store store.old) (state_of S.Store store.new) }
+    ensures fault { MismatchMeansBadRow
         (state_of S.Store store.old) (state_of S.Store store.new) result }
 {
     match store.links(alloc) {
@@ -168,8 +168,8 @@ fn knows_histories<S: Backend>(
         (state_of S.Store store.old) (state_of S.Store store.new) result }
     ensures tested { OnOk result
         (Tests GoodEntries (state_of S.Store store.old) (state_of S.Store store.new)) }
-    ensures kept { Spares (state_of S.Store store.old) (state_of S.Store store.new) }
-    ensures fault { Blames
+    ensures kept { LeavesTables (state_of S.Store store.old) (state_of S.Store store.new) }
+    ensures fault { MismatchMeansBadRow
         (state_of S.Store store.old) (state_of S.Store store.new) result }
 {
     let actors = store.actors(alloc)?;

@@ -1,7 +1,7 @@
 //! The desk over its tables.
 ghost use Rattle.std.specs.Prelude.{◌≡◌, IfErr, IfOk};
 ghost use Rattle.sqlite.specs.State.{HasCleanDisk};
-ghost use Rattle.store_tables.specs.Calls.{Spares};
+ghost use Rattle.store_tables.specs.Calls.{LeavesTables};
 ghost use Rattle.store_core.specs.Limits.{OnlyLimits, limited};
 ghost use Rattle.store_core.specs.Seen.{connection_of};
 ghost use Rattle.service_core.specs.Seen.{settings_of, tables_of};
@@ -52,7 +52,7 @@ impl<S: Backend> Desk<S> {
     pub fn is_open(&mut self) -> Result<bool, Refusal>
         ensures live { HasCleanDisk (tables_of S.Store self.new)
             → IfOk result (λ live. live ≡ (tables_of S.Store self.old).is_open) }
-        ensures kept { Spares (tables_of S.Store self.old) (tables_of S.Store self.new) }
+        ensures kept { LeavesTables (tables_of S.Store self.old) (tables_of S.Store self.new) }
         ensures fault { IfErr result (λ refusal. refusal ≡ Refusal.Unavailable) }
         ensures same { settings_of S.Store self.new ≡ settings_of S.Store self.old }
     {

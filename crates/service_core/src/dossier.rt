@@ -2,7 +2,7 @@
 ghost use Rattle.std.specs.Prelude.{◌≡◌, ℕ, true, IfErr, IfOk, Some, None};
 ghost use Rattle.desk_model.specs.Facts.{facts_on_request};
 ghost use Rattle.desk_model.specs.Step.{answer_of, refusal_beforehand};
-ghost use Rattle.store_tables.specs.Calls.{Spares, Tells};
+ghost use Rattle.store_tables.specs.Calls.{LeavesTables, Tells};
 ghost use Rattle.store_core.specs.Due.{TellsDue};
 ghost use Rattle.store_core.specs.Seen.{state_of};
 ghost use Rattle.service_core.specs.Dossiers.{DossierOn, DossierWhere, IsTold};
@@ -12,7 +12,7 @@ use crate::desk::Desk;
 use crate::reading::{history, show};
 use desk_core::{
     Answer, Call, Command, Dossier, Entry, Facts, QueueRow, Refusal, Shown, decide_on_facts,
-    refused_beforehand,
+    refusal_without_facts,
 };
 use std::alloc::{AllocError, Global};
 use store_core::{Backend, Store};
@@ -34,7 +34,7 @@ impl<S: Backend> Desk<S> {
     ) -> Result<Dossier, Refusal>
         ensures told { DossierOn (settings_of S.Store self.old) at caller.now id result
             (tables_of S.Store self.old) (tables_of S.Store self.new) }
-        ensures kept { Spares (tables_of S.Store self.old) (tables_of S.Store self.new) }
+        ensures kept { LeavesTables (tables_of S.Store self.old) (tables_of S.Store self.new) }
         ensures same { settings_of S.Store self.new ≡ settings_of S.Store self.old }
     {
         let show = Command::Show { id };
@@ -59,9 +59,9 @@ fn ask<S: Backend>(
     requires { show.now ≡ Command.Show id }
     ensures told { DossierOn call.entry.settings.now call.entry.at call.entry.caller.now id result
         (state_of S.Store store.old) (state_of S.Store store.new) }
-    ensures kept { Spares (state_of S.Store store.old) (state_of S.Store store.new) }
+    ensures kept { LeavesTables (state_of S.Store store.old) (state_of S.Store store.new) }
 {
-    match refused_beforehand(call.settings, call.at, call.caller, show) {
+    match refusal_without_facts(call.settings, call.at, call.caller, show) {
         Some(refusal) => Err(refusal),
         None => look(alloc, store, call, id, show),
     }
@@ -80,7 +80,7 @@ fn look<S: Backend>(
         show.now ≡ None }
     ensures told { DossierOn call.entry.settings.now call.entry.at call.entry.caller.now id result
         (state_of S.Store store.old) (state_of S.Store store.new) }
-    ensures kept { Spares (state_of S.Store store.old) (state_of S.Store store.new) }
+    ensures kept { LeavesTables (state_of S.Store store.old) (state_of S.Store store.new) }
 {
     match store.facts_for(alloc, show) {
         Ok(facts) => {
@@ -107,7 +107,7 @@ fn judged<S: Backend>(
     ensures told { DossierWhere (λ desk. facts.now ≡ facts_on_request desk id)
         call.entry.settings.now call.entry.at call.entry.caller.now id result
         (state_of S.Store store.old) (state_of S.Store store.new) }
-    ensures kept { Spares (state_of S.Store store.old) (state_of S.Store store.new) }
+    ensures kept { LeavesTables (state_of S.Store store.old) (state_of S.Store store.new) }
 {
     match decide_on_facts(alloc, call.settings, call.at, call.caller, facts, show) {
         Ok(change) => {
@@ -129,7 +129,7 @@ fn put_together<S: Backend>(
         (λ desk dossier. facts.now ≡ facts_on_request desk id
         → IsTold call.entry.settings.now call.entry.at call.entry.caller.now id desk dossier)
         (state_of S.Store store.old) (state_of S.Store store.new) result }
-    ensures kept { Spares (state_of S.Store store.old) (state_of S.Store store.new) }
+    ensures kept { LeavesTables (state_of S.Store store.old) (state_of S.Store store.new) }
     ensures fault { IfErr result (λ refusal. refusal ≡ Refusal.Unavailable) }
 {
     match shown(alloc, store, call, facts) {
@@ -151,7 +151,7 @@ fn with_history<S: Backend>(
         (Command.Show id) desk
         → IsTold call.entry.settings.now call.entry.at call.entry.caller.now id desk dossier)
         (state_of S.Store store.old) (state_of S.Store store.new) result }
-    ensures kept { Spares (state_of S.Store store.old) (state_of S.Store store.new) }
+    ensures kept { LeavesTables (state_of S.Store store.old) (state_of S.Store store.new) }
     ensures fault { IfErr result (λ refusal. refusal ≡ Refusal.Unavailable) }
 {
     match told(alloc, store, call, facts) {
@@ -174,7 +174,7 @@ fn shown<S: Backend>(
         → Answer.Shown shown ≡ answer_of call.entry.settings.now call.entry.at call.entry.caller.now
         (Command.Show id) desk)
         (state_of S.Store store.old) (state_of S.Store store.new) result }
-    ensures kept { Spares (state_of S.Store store.old) (state_of S.Store store.new) }
+    ensures kept { LeavesTables (state_of S.Store store.old) (state_of S.Store store.new) }
     ensures fault { IfErr result (λ refusal. refusal ≡ Refusal.Unavailable) }
 {
     match show(alloc, store, call, facts) {
@@ -194,7 +194,7 @@ fn told<S: Backend>(
         → Answer.History entries ≡ answer_of call.entry.settings.now call.entry.at call.entry.caller.now
         (Command.History id) desk)
         (state_of S.Store store.old) (state_of S.Store store.new) result }
-    ensures kept { Spares (state_of S.Store store.old) (state_of S.Store store.new) }
+    ensures kept { LeavesTables (state_of S.Store store.old) (state_of S.Store store.new) }
     ensures fault { IfErr result (λ refusal. refusal ≡ Refusal.Unavailable) }
 {
     match history(alloc, store, call, facts) {

@@ -3,20 +3,20 @@
 //! What owns much is given back by `drop`, whose proof stands once; at the end of its scope it
 //! would be taken apart for each function's own proof.
 ghost use Rattle.std.specs.Prelude.{◌≡◌, true, None, IfErr, IfOk, OnErr};
-ghost use Rattle.desk_model.specs.Plan.{told_of};
+ghost use Rattle.desk_model.specs.Plan.{answer_of_change};
 ghost use Rattle.desk_model.specs.Step.{refusal_beforehand};
-ghost use Rattle.store_tables.specs.Calls.{Spares};
+ghost use Rattle.store_tables.specs.Calls.{LeavesTables};
 ghost use Rattle.store_core.specs.Seen.{state_of};
 ghost use Rattle.service_core.specs.Asked.{asked};
 ghost use Rattle.service_core.specs.Decided.{StepsSeeing, Writes};
 ghost use Rattle.service_core.specs.Leaves.{KeepsStore, LeavesDesk, StepsSafely};
-ghost use Rattle.service_core.specs.TableSteps.{StepsOn, ask_by};
+ghost use Rattle.service_core.specs.TableSteps.{StepOverTables, ask_by};
 ghost use Rattle.service_core.specs.Seen.{settings_of, tables_of};
 
 use crate::desk::Desk;
 use crate::reading;
 use desk_core::{
-    Answer, Call, Change, Command, Facts, Refusal, decide_on_facts, refused_beforehand,
+    Answer, Call, Change, Command, Facts, Refusal, decide_on_facts, refusal_without_facts,
 };
 use std::alloc::Global;
 use store_core::{Backend, Store};
@@ -35,15 +35,15 @@ impl<S: Backend> Desk<S> {
         caller: &str,
         command: &Command,
     ) -> Result<Answer, Refusal>
-        ensures step { StepsOn (settings_of S.Store self.old)
+        ensures step { StepOverTables (settings_of S.Store self.old)
             (ask_by at caller.now command.now) result
             (tables_of S.Store self.old) (tables_of S.Store self.new) }
         ensures refused { OnErr result
-            (Spares (tables_of S.Store self.old) (tables_of S.Store self.new)) }
+            (LeavesTables (tables_of S.Store self.old) (tables_of S.Store self.new)) }
         ensures left { LeavesDesk S.Store self.old self.new }
     {
         let settings = &self.settings;
-        match refused_beforehand(settings, at, caller, command) {
+        match refusal_without_facts(settings, at, caller, command) {
             Some(refusal) => Err(refusal),
             None => step(
                 alloc,
@@ -68,12 +68,12 @@ fn step<S: Backend>(
 ) -> Result<Answer, Refusal>
     requires { refusal_beforehand call.settings.now call.at call.caller.now
         command.now ≡ None }
-    ensures { StepsSafely (StepsOn call.entry.settings.now (asked call.entry command.now))
+    ensures { StepsSafely (StepOverTables call.entry.settings.now (asked call.entry command.now))
         (state_of S.Store store.old) (state_of S.Store store.new) result }
 {
     match store.facts_for(alloc, command) {
         Ok(facts) => {
-            let outcome = step_seeing(alloc, store, call, command, &facts);
+            let outcome = step_on_facts(alloc, store, call, command, &facts);
             drop(facts);
             outcome
         }
@@ -82,7 +82,7 @@ fn step<S: Backend>(
 }
 
 /// One command that sees this: its refusal, or its answer, once its change is made.
-fn step_seeing<S: Backend>(
+fn step_on_facts<S: Backend>(
     alloc: Global,
     store: &mut Store<S>,
     call: Call<'_>,
@@ -110,10 +110,10 @@ fn step_seeing<S: Backend>(
 
 /// Writes a change, and tells which request it filed, or that it is done.
 fn write<S: Backend>(store: &mut Store<S>, change: Change) -> Result<Answer, Refusal>
-    ensures done { IfOk result (λ answer. (answer ≡ told_of change)
+    ensures done { IfOk result (λ answer. (answer ≡ answer_of_change change)
         × Writes change (state_of S.Store store.old) (state_of S.Store store.new)) }
     ensures undone { OnErr result
-        (Spares (state_of S.Store store.old) (state_of S.Store store.new)) }
+        (LeavesTables (state_of S.Store store.old) (state_of S.Store store.new)) }
     ensures fault { IfErr result (λ refusal. refusal ≡ Refusal.Unavailable) }
     ensures keeps { KeepsStore (state_of S.Store store.old) (state_of S.Store store.new) }
 {

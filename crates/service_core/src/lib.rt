@@ -3,10 +3,10 @@
 //!
 //! - `Desk::attach` gives a desk over tables where the settings know each name in them, and
 //!   `UnknownName` only where they don't; the store is given back. Each row is a value of its type
-//!   then (`TestsRows`). The tables of a desk keep the due moments that the settings give
+//!   then (`AllRowsValid`). The tables of a desk keep the due moments that the settings give
 //!   (`AreRenewed`). Those that differ are written, all or none. `knows_tables` asks the same of
 //!   tables, and writes nothing.
-//! - `Desk::execute` is one step (`StepsOn`), to a well-formed desk, with the laws beside it
+//! - `Desk::execute` is one step (`StepOverTables`), to a well-formed desk, with the laws beside it
 //!   (`IsStep`); or `Unavailable`. A refusal changes no table, whatever rows there are.
 //! - `Desk::execute_all` is a run of such steps, to a well-formed desk (`RunsOn`). Where there is no
 //!   room for its answers nothing is done.
@@ -17,7 +17,7 @@
 //!   takes. The tables stand for the desk that they stood for.
 //! - The due moments kept are those of the desk (`kept_due_law`).
 //!
-//! What `refused_beforehand` refuses costs no statement, a command on a request that isn't there
+//! What `refusal_without_facts` refuses costs no statement, a command on a request that isn't there
 //! one, but `link` and `link -d` two, four or six. `queues` reads one row where the grants let the
 //! caller see one queue alone, else all. `show` asks once or twice for each request that one
 //! is linked with, and goes over all links. `ls`, `overdue` and `workload` go over all requests.

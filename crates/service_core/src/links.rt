@@ -3,7 +3,7 @@ ghost use Rattle.std.specs.Prelude.{◌≡◌, IfErr, IfOk, filter};
 ghost use Rattle.desk_model.specs.Links.{is_kind};
 ghost use Rattle.desk_model.specs.Readings.Show as showing;
 ghost use Rattle.desk_model.specs.Rights.{is_shown};
-ghost use Rattle.store_tables.specs.Calls.{Spares, Tells};
+ghost use Rattle.store_tables.specs.Calls.{LeavesTables, Tells};
 ghost use Rattle.store_core.specs.Seen.{state_of};
 ghost use Rattle.service_core.specs.Shown as shown;
 ghost use Rattle.service_core.specs.Shown.{AreAnswers};
@@ -50,7 +50,7 @@ pub(crate) fn links_of<S: Backend>(
     ensures told { Tells (λ desk links. links
         ≡ showing.links_of settings.now caller.now desk id)
         (state_of S.Store store.old) (state_of S.Store store.new) result }
-    ensures kept { Spares (state_of S.Store store.old) (state_of S.Store store.new) }
+    ensures kept { LeavesTables (state_of S.Store store.old) (state_of S.Store store.new) }
     ensures fault { IfErr result (λ refusal. refusal ≡ Refusal.Unavailable) }
 {
     let mut asked = BTreeMap::new(alloc);
@@ -95,7 +95,7 @@ fn shown_at<S: Backend>(
         → (found.items ≡ filter (shown.is_shown_at settings.now caller.now desk end) links.now)
         × AreAnswers settings.now caller.now desk asked.new)
         (state_of S.Store store.old) (state_of S.Store store.new) result }
-    ensures kept { Spares (state_of S.Store store.old) (state_of S.Store store.new) }
+    ensures kept { LeavesTables (state_of S.Store store.old) (state_of S.Store store.new) }
     ensures fault { IfErr result (λ refusal. refusal ≡ Refusal.Unavailable) }
 {
     let mut found = Vec::new(alloc);
@@ -124,7 +124,7 @@ fn is_shown_once<S: Backend>(
         → (shown ≡ is_shown settings.now caller.now desk number)
         × AreAnswers settings.now caller.now desk asked.new)
         (state_of S.Store store.old) (state_of S.Store store.new) result }
-    ensures kept { Spares (state_of S.Store store.old) (state_of S.Store store.new) }
+    ensures kept { LeavesTables (state_of S.Store store.old) (state_of S.Store store.new) }
     ensures fault { IfErr result (λ refusal. refusal ≡ Refusal.Unavailable) }
 {
     match asked.get(&number).copied() {

@@ -1,12 +1,12 @@
 //! What each queue has open.
 ghost use Rattle.std.specs.Prelude.{◌≡◌, true, IfErr};
-ghost use Rattle.store_tables.specs.Calls.{Spares};
+ghost use Rattle.store_tables.specs.Calls.{LeavesTables};
 ghost use Rattle.store_core.specs.Seen.{state_of};
 ghost use Rattle.service_core.specs.Loading.{LoadsOn};
 ghost use Rattle.service_core.specs.Seen.{settings_of, tables_of};
 
 use crate::desk::Desk;
-use desk_core::{Call, Command, Refusal, refused_beforehand};
+use desk_core::{Call, Command, Refusal, refusal_without_facts};
 use find_core::QueueLoad;
 use std::alloc::Global;
 use store_core::{Backend, Store};
@@ -29,7 +29,7 @@ impl<S: Backend> Desk<S> {
     ) -> Result<Sequence<QueueLoad>, Refusal>
         ensures told { LoadsOn (settings_of S.Store self.old) at caller.now result
             (tables_of S.Store self.old) (tables_of S.Store self.new) }
-        ensures kept { Spares (tables_of S.Store self.old) (tables_of S.Store self.new) }
+        ensures kept { LeavesTables (tables_of S.Store self.old) (tables_of S.Store self.new) }
         ensures same { settings_of S.Store self.new ≡ settings_of S.Store self.old }
     {
         let overdue = Command::Overdue;
@@ -53,9 +53,9 @@ fn look<S: Backend>(
     requires { overdue.now ≡ Command.Overdue }
     ensures told { LoadsOn call.entry.settings.now call.entry.at call.entry.caller.now result
         (state_of S.Store store.old) (state_of S.Store store.new) }
-    ensures kept { Spares (state_of S.Store store.old) (state_of S.Store store.new) }
+    ensures kept { LeavesTables (state_of S.Store store.old) (state_of S.Store store.new) }
 {
-    match refused_beforehand(call.settings, call.at, call.caller, overdue) {
+    match refusal_without_facts(call.settings, call.at, call.caller, overdue) {
         Some(refusal) => Err(refusal),
         None => desk_finds::queue_loads(alloc, store, call),
     }

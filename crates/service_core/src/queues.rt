@@ -5,12 +5,12 @@ ghost use Rattle.desk_model.specs.Desk.{queue_at};
 ghost use Rattle.desk_model.specs.Rights as rights;
 ghost use Rattle.desk_model.specs.declared.command.Command.TheVariants as commands;
 ghost use Rattle.desk_model.specs.declared.facts.Facts.{Facts};
-ghost use Rattle.store_tables.specs.Calls.{Spares, Tells};
+ghost use Rattle.store_tables.specs.Calls.{LeavesTables, Tells};
 ghost use Rattle.store_core.specs.Seen.{state_of};
 ghost use Rattle.service_core.specs.Decided.{Answers};
 ghost use Rattle.service_core.specs.TableSteps.{ask_by};
 
-use crate::sight::{Sight, sight_of};
+use crate::sight::{QueueVisibility, visible_queues};
 use desk_core::{Answer, QueueRow, Refusal, sees_queue};
 use settings_core::Settings;
 use std::alloc::{AllocError, Global};
@@ -31,11 +31,11 @@ pub(crate) fn queues<S: Backend>(
     ensures told { (at : ℕ) (facts : Facts)
         → Answers settings.now (ask_by at caller.now commands.Queues) facts
         (state_of S.Store store.old) (state_of S.Store store.new) result }
-    ensures kept { Spares (state_of S.Store store.old) (state_of S.Store store.new) }
+    ensures kept { LeavesTables (state_of S.Store store.old) (state_of S.Store store.new) }
     ensures fault { IfErr result (λ refusal. refusal ≡ Refusal.Unavailable) }
 {
-    match sight_of(settings, caller) {
-        Sight::One(name) => one_queue(alloc, store, name),
+    match visible_queues(settings, caller) {
+        QueueVisibility::One(name) => one_queue(alloc, store, name),
         _ => all_seen(alloc, store, settings, caller),
     }
 }
@@ -51,7 +51,7 @@ fn all_seen<S: Backend>(
     ensures told { (at : ℕ) (facts : Facts)
         → Answers settings.now (ask_by at caller.now commands.Queues) facts
         (state_of S.Store store.old) (state_of S.Store store.new) result }
-    ensures kept { Spares (state_of S.Store store.old) (state_of S.Store store.new) }
+    ensures kept { LeavesTables (state_of S.Store store.old) (state_of S.Store store.new) }
     ensures fault { IfErr result (λ refusal. refusal ≡ Refusal.Unavailable) }
 {
     let queues = store.queues(alloc)?;
@@ -76,7 +76,7 @@ fn one_queue<S: Backend>(
     ensures told { Tells (λ desk answer. answer
         ≡ Answer.Queues (option_to_list (queue_at desk name.now)))
         (state_of S.Store store.old) (state_of S.Store store.new) result }
-    ensures kept { Spares (state_of S.Store store.old) (state_of S.Store store.new) }
+    ensures kept { LeavesTables (state_of S.Store store.old) (state_of S.Store store.new) }
     ensures fault { IfErr result (λ refusal. refusal ≡ Refusal.Unavailable) }
 {
     let queue = store.queue_named(name)?;

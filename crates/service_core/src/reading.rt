@@ -2,7 +2,7 @@
 ghost use Rattle.std.specs.Prelude.{◌≡◌, ℕ, IfErr, filter};
 ghost use Rattle.desk_model.specs.Commands.{IsReading};
 ghost use Rattle.desk_model.specs.declared.facts.Facts.{Facts};
-ghost use Rattle.store_tables.specs.Calls.{Spares, Tells};
+ghost use Rattle.store_tables.specs.Calls.{LeavesTables, Tells};
 ghost use Rattle.store_core.specs.Seen.{state_of};
 ghost use Rattle.service_core.specs.Asked.{asked};
 ghost use Rattle.service_core.specs.Decided.{Answers, AnswersDue};
@@ -30,7 +30,7 @@ pub(crate) fn read<S: Backend>(
     requires { IsReading command.now }
     ensures told { AnswersDue call.entry.settings.now (asked call.entry command.now) facts.now
         (state_of S.Store store.old) (state_of S.Store store.new) result }
-    ensures kept { Spares (state_of S.Store store.old) (state_of S.Store store.new) }
+    ensures kept { LeavesTables (state_of S.Store store.old) (state_of S.Store store.new) }
     ensures fault { IfErr result (λ refusal. refusal ≡ Refusal.Unavailable) }
 {
     match command {
@@ -55,7 +55,7 @@ pub(crate) fn show<S: Backend>(
     ensures told { (id : ℕ)
         → Answers call.entry.settings.now (asked call.entry (Command.Show id)) facts.now
         (state_of S.Store store.old) (state_of S.Store store.new) result }
-    ensures kept { Spares (state_of S.Store store.old) (state_of S.Store store.new) }
+    ensures kept { LeavesTables (state_of S.Store store.old) (state_of S.Store store.new) }
     ensures fault { IfErr result (λ refusal. refusal ≡ Refusal.Unavailable) }
 {
     match &facts.request {
@@ -88,7 +88,7 @@ fn shown_to<S: Backend>(
         ≡ Answer.Shown (shown.shown_to call.entry.settings.now call.entry.caller.now due
         request.now desk))
         (state_of S.Store store.old) (state_of S.Store store.new) result }
-    ensures kept { Spares (state_of S.Store store.old) (state_of S.Store store.new) }
+    ensures kept { LeavesTables (state_of S.Store store.old) (state_of S.Store store.new) }
     ensures fault { IfErr result (λ refusal. refusal ≡ Refusal.Unavailable) }
 {
     let links = links_of(alloc, store, call.settings, call.caller, request.row.id)?;
@@ -121,7 +121,7 @@ fn list<S: Backend>(
     ensures told { (facts : Facts)
         → AnswersDue call.entry.settings.now (asked call.entry (Command.List queue.now)) facts
         (state_of S.Store store.old) (state_of S.Store store.new) result }
-    ensures kept { Spares (state_of S.Store store.old) (state_of S.Store store.new) }
+    ensures kept { LeavesTables (state_of S.Store store.old) (state_of S.Store store.new) }
     ensures fault { IfErr result (λ refusal. refusal ≡ Refusal.Unavailable) }
 {
     let lines = desk_reports::list(alloc, store, call.settings, call.caller, queue)?;
@@ -139,7 +139,7 @@ fn overdue<S: Backend>(
     ensures told { (facts : Facts)
         → AnswersDue call.entry.settings.now (asked call.entry Command.Overdue) facts
         (state_of S.Store store.old) (state_of S.Store store.new) result }
-    ensures kept { Spares (state_of S.Store store.old) (state_of S.Store store.new) }
+    ensures kept { LeavesTables (state_of S.Store store.old) (state_of S.Store store.new) }
     ensures fault { IfErr result (λ refusal. refusal ≡ Refusal.Unavailable) }
 {
     let lines = desk_reports::overdue(alloc, store, call)?;
@@ -156,7 +156,7 @@ fn workload<S: Backend>(
     ensures told { (facts : Facts)
         → AnswersDue call.entry.settings.now (asked call.entry Command.Workload) facts
         (state_of S.Store store.old) (state_of S.Store store.new) result }
-    ensures kept { Spares (state_of S.Store store.old) (state_of S.Store store.new) }
+    ensures kept { LeavesTables (state_of S.Store store.old) (state_of S.Store store.new) }
     ensures fault { IfErr result (λ refusal. refusal ≡ Refusal.Unavailable) }
 {
     let loads = desk_reports::workload(alloc, store, call)?;
@@ -174,7 +174,7 @@ pub(crate) fn history<S: Backend>(
     ensures told { (id : ℕ)
         → Answers call.entry.settings.now (asked call.entry (Command.History id)) facts.now
         (state_of S.Store store.old) (state_of S.Store store.new) result }
-    ensures kept { Spares (state_of S.Store store.old) (state_of S.Store store.new) }
+    ensures kept { LeavesTables (state_of S.Store store.old) (state_of S.Store store.new) }
     ensures fault { IfErr result (λ refusal. refusal ≡ Refusal.Unavailable) }
 {
     match &facts.request {
@@ -194,7 +194,7 @@ fn told_to<S: Backend>(
         ≡ Answer.History (shown.told_to call.entry.settings.now call.entry.caller.now
         request.now desk))
         (state_of S.Store store.old) (state_of S.Store store.new) result }
-    ensures kept { Spares (state_of S.Store store.old) (state_of S.Store store.new) }
+    ensures kept { LeavesTables (state_of S.Store store.old) (state_of S.Store store.new) }
     ensures fault { IfErr result (λ refusal. refusal ≡ Refusal.Unavailable) }
 {
     let comments = request.shows_comments_to(call.settings, call.caller);

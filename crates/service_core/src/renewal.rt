@@ -49,7 +49,7 @@ pub(crate) fn renew<S: Backend>(
 {
     match renewals(alloc, settings, queues, stays, dated) {
         Ok(dues) => {
-            store.set_dues(dues.as_slice())?;
+            store.set_due_times(dues.as_slice())?;
             Ok(Renewal::Done)
         }
         Err(_) => Ok(Renewal::NoMemory),

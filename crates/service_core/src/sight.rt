@@ -6,7 +6,7 @@ ghost use Rattle.std.specs.Str.{bytes_eq};
 ghost use Rattle.desk_model.specs.Rights.{holds_on_queue};
 ghost use Rattle.rights_core.specs.People.{gives, is_meant as is_meant_by, no_roles};
 ghost use Rattle.rights_core.specs.Right.{see_queue, super_user};
-ghost use Rattle.service_core.specs.Sight.{IsSight, lets_see};
+ghost use Rattle.service_core.specs.QueueVisibility.{IsSight, lets_see};
 
 use rights_core::{Grant, People, Subject, right};
 use settings_core::Settings;
@@ -14,7 +14,7 @@ use text_core::Text;
 
 /// The queues that a person may see.
 #[derive(Clone, Copy)]
-pub(crate) enum Sight<'s> {
+pub(crate) enum QueueVisibility<'s> {
     /// None.
     Nothing,
     /// The one of this name, if it is there.
@@ -24,23 +24,23 @@ pub(crate) enum Sight<'s> {
 }
 
 /// The queues that a person may see, by the grants that mean the person. Takes no memory.
-pub(crate) fn sight_of<'s>(settings: &'s Settings, person: &str) -> Sight<'s>
+pub(crate) fn visible_queues<'s>(settings: &'s Settings, person: &str) -> QueueVisibility<'s>
     ensures { IsSight result (holds_on_queue settings.now person.now see_queue) }
 {
     let people = settings.people();
     if people.knows(person) {
         sight_by(people, person, people.parts().grants.as_slice())
     } else {
-        Sight::Nothing
+        QueueVisibility::Nothing
     }
 }
 
 /// The queues that these grants let the person see.
-fn sight_by<'s>(people: &People, person: &str, grants: &'s [Grant]) -> Sight<'s>
+fn sight_by<'s>(people: &People, person: &str, grants: &'s [Grant]) -> QueueVisibility<'s>
     ensures { IsSight result
         (λ queue. list_any (lets_see people.now person.now queue) grants.now) }
 {
-    let mut sight = Sight::Nothing;
+    let mut sight = QueueVisibility::Nothing;
     for grant in grants {
         if shows_queues(people, person, grant) {
             sight = sight.and(&grant.queue);
@@ -49,17 +49,18 @@ fn sight_by<'s>(people: &People, person: &str, grants: &'s [Grant]) -> Sight<'s>
     sight
 }
 
-impl<'s> Sight<'s> {
+impl<'s> QueueVisibility<'s> {
     /// With the queue of this name, or with all of them.
-    fn and(self, queue: &'s Option<Text>) -> Sight<'s>
+    fn and(self, queue: &'s Option<Text>) -> QueueVisibility<'s>
         ensures { (sees : List ℕ → Bool) → IsSight self.entry sees
             → IsSight result (λ name. sees name
             || option_map_or (λ q. bytes_eq q name) queue.now true) }
     {
         match (self, queue) {
-            (Sight::Nothing, Some(name)) => Sight::One(name),
-            (Sight::One(one), Some(name)) if one.as_str() == name.as_str() => Sight::One(one),
-            _ => Sight::Several,
+            (QueueVisibility::Nothing, Some(name)) => QueueVisibility::One(name),
+            (QueueVisibility::One(one), Some(name)) if one.as_str() == name.as_str() =>
+                QueueVisibility::One(one),
+            _ => QueueVisibility::Several,
         }
     }
 }

@@ -5,7 +5,7 @@
 ghost use Rattle.std.specs.Prelude.{◌≡◌, false, true, None};
 ghost use Rattle.desk_model.specs.Desk as desks;
 ghost use Rattle.desk_model.specs.Step.{facts_of, refusal_beforehand};
-ghost use Rattle.store_tables.specs.Calls.{Spares};
+ghost use Rattle.store_tables.specs.Calls.{LeavesTables};
 ghost use Rattle.store_core.specs.Seen.{state_of};
 ghost use Rattle.stream_core.specs.Seen.{HaveOneWriter, has_write_failed};
 ghost use Rattle.stream_core.specs.Written.{IsWritten, Prints};
@@ -14,10 +14,10 @@ ghost use Rattle.service_core.specs.Leaves.{LeavesWriter, SparesDesk};
 ghost use Rattle.service_core.specs.Seen.{settings_of, tables_of};
 ghost use Rattle.service_core.specs.Streaming.{Admits, IsAdmitted, StreamsAdmitted};
 ghost use Rattle.service_core.specs.Streaming.{StreamsOn, StreamsSafely, is_list, is_write};
-ghost use Rattle.service_core.specs.TableSteps.{StandsOn, ask_by};
+ghost use Rattle.service_core.specs.TableSteps.{RepresentsSame, ask_by};
 
 use crate::desk::Desk;
-use desk_core::{Call, Command, Facts, Refusal, decide_on_facts, refused_beforehand};
+use desk_core::{Call, Command, Facts, Refusal, decide_on_facts, refusal_without_facts};
 use desk_reports::{StreamFault, stream_list, stream_overdue};
 use std::alloc::Global;
 use std::io::Write;
@@ -45,7 +45,7 @@ impl<S: Backend> Desk<S> {
             (ask_by at caller.now command.now)
             (tables_of S.Store self.old) (tables_of S.Store self.new) result
             (IsWritten (is_write result) (W.contents writer.old) (W.contents writer.new)) }
-        ensures stands { StandsOn (settings_of S.Store self.old)
+        ensures stands { RepresentsSame (settings_of S.Store self.old)
             (tables_of S.Store self.old) (tables_of S.Store self.new) }
         ensures left { SparesDesk S.Store self.old self.new }
     {
@@ -70,12 +70,12 @@ impl<S: Backend> Desk<S> {
             (ask_by at caller.now command.now)
             (tables_of S.Store self.old) (tables_of S.Store self.new) result
             (Prints W.contents output.old output.new) }
-        ensures stands { StandsOn (settings_of S.Store self.old)
+        ensures stands { RepresentsSame (settings_of S.Store self.old)
             (tables_of S.Store self.old) (tables_of S.Store self.new) }
         ensures left { SparesDesk S.Store self.old self.new }
     {
         let settings = &self.settings;
-        match refused_beforehand(settings, at, caller, command) {
+        match refusal_without_facts(settings, at, caller, command) {
             Some(refusal) => Err(StreamFault::Refused(refusal)),
             None => put_if_admitted(
                 alloc,
@@ -126,7 +126,7 @@ fn admit<S: Backend>(
         command.now ≡ None }
     ensures admitted { Admits call.entry.settings.now (asked call.entry command.now) result
         (state_of S.Store store.old) (state_of S.Store store.new) }
-    ensures kept { Spares (state_of S.Store store.old) (state_of S.Store store.new) }
+    ensures kept { LeavesTables (state_of S.Store store.old) (state_of S.Store store.new) }
 {
     let facts = store.facts_for(alloc, command)?;
     let admitted = admit_seeing(alloc, call, command, &facts);

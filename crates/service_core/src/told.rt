@@ -6,7 +6,7 @@ ghost use Rattle.std.specs.Prelude.{◌≡◌, Err, IfOk, OnErr};
 ghost use Rattle.desk_model.specs.declared.refusal.Refusal.TheVariants.{Unavailable};
 ghost use Rattle.service_core.specs.Leaves.{LeavesDesk};
 ghost use Rattle.service_core.specs.Seen.{settings_of, tables_of};
-ghost use Rattle.service_core.specs.TableSteps.{StepsOn, ask_by};
+ghost use Rattle.service_core.specs.TableSteps.{StepOverTables, ask_by};
 ghost use Rattle.service_core.specs.Telling.{TellsOn};
 
 use crate::desk::Desk;
@@ -51,7 +51,7 @@ impl<S: Backend> Desk<S> {
             (ask_by at caller.now command.now)
             (tables_of S.Store self.old) (tables_of S.Store self.new)
             told.outcome told.text.items) }
-        ensures err { OnErr result (StepsOn (settings_of S.Store self.old)
+        ensures err { OnErr result (StepOverTables (settings_of S.Store self.old)
             (ask_by at caller.now command.now) (Err Unavailable)
             (tables_of S.Store self.old) (tables_of S.Store self.new)) }
         ensures left { LeavesDesk S.Store self.old self.new }

@@ -18,6 +18,10 @@ pub either_some : {A : Type 0} (a b : Option A) (x : A) → option_or a b ≡ So
 either_some None b x h = inr (refl, h)
 either_some (Some y) b x h = inl h
 
+pub none_either : {A : Type 0} (a b : Option A) → option_or a b ≡ None → (a ≡ None) × (b ≡ None)
+none_either None b h = (refl, h)
+none_either (Some x) b h = absurd (cc)
+
 pub mapped_some : {A B : Type 0} (f : A → B) (a : Option A) (y : B) → option_map f a ≡ Some y
     → (x : A) × (a ≡ Some x) × (f x ≡ y)
 mapped_some f None y h = absurd (cc)

@@ -56,10 +56,11 @@ use Rattle.settings_places.specs.Placed.{IsMisnamed, IsUnknownMember, IsTwice, P
 use Rattle.settings_places.specs.Tokens.{bad_token}
 use Rattle.settings_places.specs.Place as place
 use Rattle.settings_places.specs.Place.{FaultPlace, bad_name, repeated_name, place_of_fault, limit_place}
-use Rattle.settings_places.specs.Place.{name_place}
+use Rattle.settings_places.specs.Place.{name_place, named_place}
 use Rattle.settings_places.specs.declared.place.FaultPlace.{FaultPlace as PlaceInCode}
 use Rattle.settings_places.proofs.Found.{again_twice, either_some, found_or, found_unless}
-use Rattle.settings_places.proofs.Found.{mapped_some, not_true, some_either, some_mapped, some_of}
+use Rattle.settings_places.proofs.Found.{mapped_some, none_either, not_true}
+use Rattle.settings_places.proofs.Found.{some_either, some_mapped, some_of}
 use Rattle.settings_places.proofs.Found.{find_among, find_failing, find_passes}
 use Rattle.settings_places.proofs.Grants.{granted_found, granted_has, right_found, right_has}
 use Rattle.settings_places.proofs.Grants.{subject_found, subject_has}
@@ -393,7 +394,7 @@ unknowns_stated false ls p h =
     let yes : knows_right ls super_user ≡ true = root_known ls in
     let both : (true && true) ≡ false = ap (λ (b : Bool). b && true) (sym yes) ∙ no in cc)
 
-name_found : (ms : Members) → knows_names ms ≡ false → is_some (name_place ms) ≡ true
+name_found : (ms : Members) → knows_names ms ≡ false → is_some (named_place ms) ≡ true
 name_found ms h =
     let ls = tables.lifecycles_of ms in
     let levels = table_at (codes "level") ms in
@@ -456,7 +457,7 @@ person_placed ms w h =
     let (x, found, is) = mapped_some (λ f. place.person_of f.0 f.1) (unknown_person persons ms) w h in
     subst (HasFault ms UnknownName) is (person_has persons (table_at (codes "tokens") ms) x found)
 
-name_has : (ms : Members) (w : FaultPlace) → name_place ms ≡ Some w → HasFault ms UnknownName w
+name_has : (ms : Members) (w : FaultPlace) → named_place ms ≡ Some w → HasFault ms UnknownName w
 name_has ms w h =
     let ls = tables.lifecycles_of ms in
     let by_calendar : Option FaultPlace =
@@ -473,9 +474,14 @@ name_has ms w h =
     (either_some (option_map (λ f. place.right f.0 f.1) (unknown_right (knows_right ls) ms))
     (option_or by_calendar (option_or by_status by_person)) w h)
 
-name_placed : (ms : Members) → knows_names ms ≡ false → HasPlace ms UnknownName
-name_placed ms h =
-    let (w, found) = some_of (name_place ms) (name_found ms h) in (w, found, name_has ms w found)
+-- where no lifecycle has a fault
+name_placed : (ms : Members) → tables.lifecycles_fault ms ≡ None → knows_names ms ≡ false
+    → HasPlace ms UnknownName
+name_placed ms sound h =
+    let (w, found) = some_of (named_place ms) (name_found ms h) in
+    let asked : name_place ms ≡ named_place ms =
+    ap (λ (o : Option SettingsFault). if is_some o then None else named_place ms) sound in
+    (w, asked ∙ found, name_has ms w found)
 
 -- ---- tokens and limits
 
@@ -540,10 +546,11 @@ limit_placed ms h =
 
 -- ---- all
 
-late_placed : (ms : Members) (f : SettingsFault) → late_fault ms ≡ Some f → HasPlace ms f
-late_placed ms f h =
+late_placed : (ms : Members) (f : SettingsFault) → tables.lifecycles_fault ms ≡ None
+    → late_fault ms ≡ Some f → HasPlace ms f
+late_placed ms f sound h =
     when_or (HasPlace ms) (not (knows_names ms)) UnknownName _ f h
-    (λ is. name_placed ms (not_true (knows_names ms) is))
+    (λ is. name_placed ms sound (not_true (knows_names ms) is))
     (λ rest. when_or (HasPlace ms) (not (has_tokens ms)) BadToken _ f rest
     (λ is. token_placed ms (not_true (has_tokens ms) is))
     (λ rest. when_only (HasPlace ms) (not (has_limits ms)) BadLimit f rest
@@ -558,7 +565,9 @@ table_placed ms f h =
     (λ after. ⊎_elim (lifecycle_placed ms f) (λ after. rights_placed ms f after.1)
     (either_some (tables.lifecycles_fault ms) by_rights f after.1))
     (either_some (calendars.calendars_fault ms) by_lifecycles f built))
-    (λ after. late_placed ms f after.1)
+    (λ after. late_placed ms f
+    (none_either (tables.lifecycles_fault ms) by_rights
+    (none_either (calendars.calendars_fault ms) by_lifecycles after.0).1).0 after.1)
     (either_some (option_or (calendars.calendars_fault ms) by_lifecycles) (late_fault ms) f h)
 
 has_place : (ms : Members) (f : SettingsFault) → fault_of ms ≡ Some f → HasPlace ms f

@@ -8,4 +8,5 @@ pub mod Place
 pub mod Placed
 pub mod Reading
 pub mod Tokens
+pub mod Told
 pub mod Values

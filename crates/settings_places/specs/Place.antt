@@ -1,5 +1,5 @@
 -- What of a settings text has its fault first.
-use Rattle.std.specs.Prelude.{ℕ, Bool, List, Option, Some, None, codes}
+use Rattle.std.specs.Prelude.{ℕ, Bool, List, Option, Some, None, codes, is_some, if◌then◌else◌}
 use Rattle.std.specs.Option.{option_map, option_or}
 use Rattle.toml.specs.Data.{Members}
 use Rattle.rights_core.specs.declared.fault.RightsFault.{RightsFault}
@@ -8,7 +8,7 @@ use Rattle.settings_form.specs.declared.fault.FormFault.{FormFault}
 use Rattle.settings_form.specs.declared.fault.FormFault.TheVariants as form
 use Rattle.settings_parts.specs.PeopleParts.{people_in}
 use Rattle.settings_parts.specs.Values.{texts_at}
-use Rattle.settings_core.specs.Lifecycles.{lifecycles_of}
+use Rattle.settings_core.specs.Lifecycles.{lifecycles_fault, lifecycles_of}
 use Rattle.settings_core.specs.declared.fault.SettingsFault.{SettingsFault}
 use Rattle.settings_core.specs.declared.fault.SettingsFault.TheVariants.{NotToml, UnknownKey}
 use Rattle.settings_core.specs.declared.fault.SettingsFault.TheVariants.{Missing, WrongKind, Hours}
@@ -90,10 +90,14 @@ unknown_name is_right is_status persons ms =
     (option_or (option_map (λ found. status_of found.0 found.1) (unknown_status is_status ms))
     (option_map (λ found. person_of found.0 found.1) (unknown_person persons ms))))
 
-abbrev pub name_place : Members → Option FaultPlace
-name_place ms =
+abbrev pub named_place : Members → Option FaultPlace
+named_place ms =
     unknown_name (knows_right (lifecycles_of ms)) (knows_status (lifecycles_of ms))
     (people_in ms).persons ms
+
+-- where a lifecycle has a fault of its own, which rights and statuses there are isn't known
+abbrev pub name_place : Members → Option FaultPlace
+name_place ms = if is_some (lifecycles_fault ms) then None else named_place ms
 
 -- a limit of a level, or else a count
 abbrev pub limit_place : Members → Option FaultPlace

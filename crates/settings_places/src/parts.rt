@@ -1,10 +1,11 @@
 //! The lifecycles and calendars of a settings text: which has a fault first.
 
-ghost use Rattle.std.specs.Prelude.{◌≡◌, IfOk, is_some};
+ghost use Rattle.std.specs.Prelude.{◌≡◌, ◌≢◌, IfErr, IfOk, None, Some, is_some};
 ghost use Rattle.std.specs.Option.{option_copied};
 ghost use Rattle.toml.specs.View.{view, table_view};
 ghost use Rattle.settings_parts.specs.Values.{members_of, table_at as members_at};
 ghost use Rattle.settings_core.specs.Lifecycles as lifecycles;
+ghost use Rattle.settings_core.specs.declared.fault.SettingsFault.TheVariants.{NoMemory};
 ghost use Rattle.settings_places.specs.Parts as spec;
 
 use lifecycle_core::Lifecycle;
@@ -16,9 +17,12 @@ use std::alloc::{AllocError, Global};
 use toml::{Table, Value};
 
 /// The lifecycles of a settings text by name, and the lifecycle `default` where it has none of that
-/// name.
+/// name. The fault is that of the first lifecycle that has one, or `NoMemory`.
 pub fn lifecycles_of(alloc: Global, table: &Table) -> Result<Vec<Named<Lifecycle>>, SettingsFault>
-    ensures { IfOk result (λ v. v.items ≡ lifecycles.lifecycles_of (table_view table.now)) }
+    ensures ok { IfOk result (λ v. (lifecycles.lifecycles_fault (table_view table.now) ≡ None)
+        × (v.items ≡ lifecycles.lifecycles_of (table_view table.now))) }
+    ensures err { IfErr result (λ e. e ≢ NoMemory
+        → lifecycles.lifecycles_fault (table_view table.now) ≡ Some e) }
 {
     let found: Vec<Named<Lifecycle>> = stated_at(alloc, table, "lifecycle")?;
     Ok(found)

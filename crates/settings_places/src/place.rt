@@ -69,9 +69,8 @@ pub enum FaultPlace<'t> {
 }
 
 /// What of a table of settings has this fault first. Where it is the fault of the table there is
-/// such a place, and what stands there has the fault. None where nothing has it, and of `NotToml`
-/// and `NoMemory`. Of names that aren't known it is asked where the lifecycles have no fault;
-/// `AllocError` is answered where they have one.
+/// such a place, and what stands there has the fault. None where nothing has it, of `NotToml` and
+/// `NoMemory`, and of names that aren't known where a lifecycle has a fault of its own.
 pub fn place_of_fault(
     alloc: Global,
     table: &Table,
@@ -205,7 +204,7 @@ fn bad_name(table: &Table) -> Option<FaultPlace<'_>>
 }
 
 /// The first name that isn't known: a granted right, a level's calendar, a status that a level
-/// ignores, or a token's person.
+/// ignores, or a token's person. None where a lifecycle has a fault.
 fn name_place(alloc: Global, table: &Table) -> Result<Option<FaultPlace<'_>>, AllocError>
     ensures { IfOk result (λ place. option_map spec.seen place
         ≡ spec.name_place (table_view table.now)) }
@@ -214,7 +213,8 @@ fn name_place(alloc: Global, table: &Table) -> Result<Option<FaultPlace<'_>>, Al
     let persons = IndexedTexts::new(alloc, people.persons)?;
     match lifecycles_of(alloc, table) {
         Ok(lifecycles) => unknown_name_by(alloc, lifecycles.as_slice(), &persons, table),
-        Err(_) => Err(AllocError),
+        Err(SettingsFault::NoMemory) => Err(AllocError),
+        Err(_) => Ok(None),
     }
 }
 

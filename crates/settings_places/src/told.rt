@@ -1,5 +1,10 @@
 //! Where a fault of settings stands, in words for people.
 
+ghost use Rattle.std.specs.Prelude.{Some};
+ghost use Rattle.settings_form.specs.Places.{seen_key, seen_path};
+ghost use Rattle.settings_places.specs.Place.{seen};
+ghost use Rattle.settings_places.specs.Told.{key_at_text, place_text, table_text};
+
 use crate::place::FaultPlace;
 use settings_form::form::Place;
 use settings_form::walk::{KeyAt, TablePath};
@@ -13,6 +18,8 @@ struct TableNamed<'t> {
 }
 
 impl fmt::Display for TableNamed<'_> {
+    ghost output = { λ t. Some (table_text t.place (seen_path t.path)) };
+
     fn fmt<W: fmt::Write>(&self, f: &mut fmt::Formatter<W>) -> fmt::Result {
         let TablePath {
             around,
@@ -40,6 +47,8 @@ struct KeyNamed<'t> {
 }
 
 impl fmt::Display for KeyNamed<'_> {
+    ghost output = { λ k. Some (key_at_text (seen_key k.found)) };
+
     fn fmt<W: fmt::Write>(&self, f: &mut fmt::Formatter<W>) -> fmt::Result {
         let KeyAt { place, path, key } = self.found;
         let table = TableNamed { place, path };
@@ -51,6 +60,8 @@ impl fmt::Display for KeyNamed<'_> {
 }
 
 impl fmt::Display for FaultPlace<'_> {
+    ghost output = { λ p. Some (place_text (seen p)) };
+
     fn fmt<W: fmt::Write>(&self, f: &mut fmt::Formatter<W>) -> fmt::Result {
         match *self {
             FaultPlace::Key(found) => write!(f, "{}", KeyNamed { found }),

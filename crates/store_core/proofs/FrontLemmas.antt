@@ -11,8 +11,8 @@ use Rattle.sqlite.specs.Table.{Table}
 use Rattle.sqlite.specs.Effect.{Database}
 use Rattle.sqlite.specs.State.{State, HasCleanDisk}
 use Rattle.store_tables.specs.Contents.{table_count, front, table_texts}
-use Rattle.store_tables.specs.Calls.{Runs}
-use Rattle.store_tables.specs.Stands.{Ran, filled, is_among}
+use Rattle.store_tables.specs.Calls.{StatementRuns}
+use Rattle.store_tables.specs.Stands.{HasRun, filled, is_among}
 use Rattle.store_core.specs.Migrating.{Grows}
 use Rattle.sqlite_trees.proofs.ListLemmas.{all_both, all-append}
 use Rattle.store_tables.proofs.CreateLemmas.{Puts, is_there, puts}
@@ -118,7 +118,7 @@ made_from i old mid live (inr some) = (some.live.0, some.made)
 
 pub reaches_on : {X : Type 0} (i : ℕ) (old : State) {mid new : State} {sql : List ℕ} {x : X}
     {count : X → ℕ} → i < table_count → sql ≡ text_at i → Reaches i old mid
-    → Runs (λ y. Ran sql [] mid new (count y)) mid new (Ok x) → Reaches (i + 1) old new
+    → StatementRuns (λ y. HasRun sql [] mid new (count y)) mid new (Ok x) → Reaches (i + 1) old new
 reaches_on i old {mid} {new} low is so_far runs clean =
     let ran = rw is at (runs.ran clean) in
     let from = made_from i old mid ran.shown.was_open (so_far (runs.clean clean)) in

@@ -8,10 +8,10 @@ use Rattle.sqlite.specs.Order.{Row}
 use Rattle.sqlite.specs.State.{State, HasCleanDisk}
 use Rattle.sqlite.specs.Term.{Term}
 use Rattle.sqlite_rules.specs.Lists.{Has}
-use Rattle.store_tables.specs.Calls.{Runs}
+use Rattle.store_tables.specs.Calls.{StatementRuns}
 use Rattle.store_tables.specs.Contents.{Contents, no_contents, HasBadRow, desk_schema, table_count}
 use Rattle.store_tables.specs.Making.{IsBlank, IsKnown, IsOfMeta, IsVersionOf, LacksVersion, numbered}
-use Rattle.store_tables.specs.Stands.{FirstStand, GoesBack, HasFront, HasTables, HoldsNow, Stand}
+use Rattle.store_tables.specs.Stands.{FirstHoldCommitted, RolledBack, HasFront, HasTables, HoldsNow, HoldCommitted}
 use Rattle.store_tables.specs.Stands.{filled, is_among}
 use Rattle.store_tables.specs.Contents.Entry.{IsEntryRow, entry, entry_shown_terms}
 use Rattle.store_tables.specs.Contents.Meta.{meta, version_shown}
@@ -26,11 +26,11 @@ use Rattle.store_core.specs.Migrating.{IsGrown, IsNumberedSo, IsUnnumbered}
 
 -- ---- what is held before tables are made
 
-pub stand_part : (c : Contents) (s : State) → Stand c s → HoldsPart c s
+pub stand_part : (c : Contents) (s : State) → HoldCommitted c s → HoldsPart c s
 stand_part c s stand d o =
     let t = (stand d o).0 in (table_count, omega arith, t.schema, part_of_all c s.now t)
 
-pub first_part : (c : Contents) (s : State) → FirstStand c s → HoldsPart c s
+pub first_part : (c : Contents) (s : State) → FirstHoldCommitted c s → HoldsPart c s
 first_part c s stand d o = let t = (stand d o).0 in (6, omega arith, t.schema, t.tables)
 
 pub blank_part : (s : State) → IsBlank s → HoldsUnnumbered no_contents s
@@ -64,7 +64,7 @@ module _ (n : ℕ) (old new : Database) (grown : IsGrown n old new) where
       inr (bad_before entry.tree entry_shown_terms IsEntryRow grown.1.1.1.1.1.1.0 bad)
 
 module _ {X : Type 0} {P : X → Type 0} {old new : State} {r : Result X StoreFault}
-    (runs : Runs P old new r) (grows : Grows old new)
+    (runs : StatementRuns P old new r) (grows : Grows old new)
   where
     pub part_grown : (c : Contents) → HoldsPart c old → HoldsNow c new
     part_grown c part d o =
@@ -134,6 +134,6 @@ at_fault (Ok x) f h = h
 at_fault (Err e) f h = f h
 
 -- where there was no table there is none again
-pub back_blank : (old new : State) → IsBlank old → GoesBack old new → IsBlank new
+pub back_blank : (old new : State) → IsBlank old → RolledBack old new → IsBlank new
 back_blank old new blank = back_both (λ (db : Database). db.schema ≡ no_schema) old new
     (λ d o. (blank d o).1)

@@ -7,7 +7,7 @@ use Rattle.sqlite.specs.Effect.{Database}
 use Rattle.sqlite.specs.Order.{Row, column}
 use Rattle.sqlite.specs.State.{HasCleanDisk, State}
 use Rattle.sqlite_rules.specs.Lists.{Has}
-use Rattle.store_tables.specs.Calls.{Does, FailsIn, Looks}
+use Rattle.store_tables.specs.Calls.{StatementChanges, FailsIn, QueryInTransaction}
 use Rattle.store_tables.specs.Contents.{Contents, HasBadRow, Tables}
 use Rattle.store_tables.specs.Picked.{shows}
 use Rattle.store_tables.specs.Contents.{first_schema}
@@ -22,21 +22,21 @@ use Rattle.store_tables.proofs.Lasting.{on, same}
 use Rattle.store_tables.proofs.RowLemmas.{TableOf, only_refused, refuses}
 use Rattle.store_tables.proofs.ReadingLemmas.{if_err}
 use Rattle.store_tables.proofs.StepLemmas.{beside_on, beside_there, kept_on}
-use Rattle.store_core.specs.Migrating.{BlamesSource, HasBadSource, RefusesOn, RunsOn}
+use Rattle.store_core.specs.Migrating.{MismatchMeansBadSource, HasBadSource, RefusesOn, RunsOn}
 
 pub and_then : {X E P Q : Type 0} (r : Result X E) → (P → Q) → OnOk r P → OnOk r Q
 and_then (Ok x) f h = f h
 and_then (Err e) f h = h
 
 -- a query, and a change
-pub looks_on : {X : Type 0} {a b : State} {r : Result X StoreFault} → Looks a b r → RunsOn a b r
+pub looks_on : {X : Type 0} {a b : State} {r : Result X StoreFault} → QueryInTransaction a b r → RunsOn a b r
 looks_on {a = a} {b = b} {r = r} looks =
     let holds : (c : Contents) → HoldsNow c a → OnOk r ((d : Contents) × HoldsNow d b) =
     λ c h. and_then r (λ k. (c, k)) (looks.makes c h) in
     assumption
 
 pub does_on : {X : Type 0} {change : Contents → Contents} {a b : State} {r : Result X StoreFault}
-    → Does change a b r → RunsOn a b r
+    → StatementChanges change a b r → RunsOn a b r
 does_on {change = change} {a = a} {b = b} {r = r} does =
     let holds : (c : Contents) → HoldsNow c a → OnOk r ((d : Contents) × HoldsNow d b) =
     λ c h. and_then r (λ k. (change c, k)) (does.makes c h) in
@@ -66,7 +66,7 @@ module _ {X Y : Type 0} {x : X} {a b c : State} {r : Result Y StoreFault}
     beside_then = beside_on a b c beside two.clean
 
     -- what is bad after it was bad before it
-    pub blames_then : BlamesSource b c r → BlamesSource a c r
+    pub blames_then : MismatchMeansBadSource b c r → MismatchMeansBadSource a c r
     blames_then it = record {
       known = it.known;
       mismatch = if_err r (λ e why wrong has clean.
@@ -76,19 +76,19 @@ module _ {X Y : Type 0} {x : X} {a b c : State} {r : Result Y StoreFault}
     }
 
 pub looks_then : {X Y : Type 0} {x : X} {a b c : State} {r : Result Y StoreFault}
-    → Looks a b (Ok x) → RunsOn b c r → RunsOn a c r
+    → QueryInTransaction a b (Ok x) → RunsOn b c r → RunsOn a c r
 looks_then looks = runs_then (looks_on looks)
 
 -- a change that comes last
 pub runs_does : {X Y : Type 0} {x : X} {change : Contents → Contents} {a b c : State}
-    {r : Result Y StoreFault} → RunsOn a b (Ok x) → Does change b c r → RunsOn a c r
+    {r : Result Y StoreFault} → RunsOn a b (Ok x) → StatementChanges change b c r → RunsOn a c r
 runs_does one does = runs_then one (does_on does)
 
 -- ---- what a mismatch is blamed on
 
 -- a list that was not read: over tables that hold values it is refused
 module _ {K V X Y : Type 0} {e : StoreFault} {a b : State} {q : Result X StoreFault}
-    {r : Result Y StoreFault} (t : TableOf K V) (looks : Looks a b q)
+    {r : Result Y StoreFault} (t : TableOf K V) (looks : QueryInTransaction a b q)
     (fails : (let it : Result ⊤ StoreFault = Err e in FailsIn t.tree t.terms t.IsValue a b it))
     (is : r ≡ Err e)
   where
@@ -99,7 +99,7 @@ module _ {K V X Y : Type 0} {e : StoreFault} {a b : State} {q : Result X StoreFa
         (λ d o. let it = holds d o in (it.0, it.0)) now)
 
     pub blamed_inside : (HasBadRow t.tree t.terms t.IsValue a.now → HasBadSource a.now)
-        → BlamesSource a b r
+        → MismatchMeansBadSource a b r
     blamed_inside source = rw is (record {
       known = fails.0;
       mismatch = λ wrong has clean.

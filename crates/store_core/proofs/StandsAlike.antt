@@ -6,7 +6,7 @@ use Rattle.sqlite.specs.Order.{Row}
 use Rattle.sqlite.specs.State.{State}
 use Rattle.store_tables.specs.Contents.{Contents, no_contents, Tables, AreAlike}
 use Rattle.store_tables.specs.Kept.{Holds}
-use Rattle.store_tables.specs.Stands.{HoldsNow, Stand, StandsFor}
+use Rattle.store_tables.specs.Stands.{HoldsNow, HoldCommitted, Represents}
 use Rattle.store_tables.proofs.Contents.{values_alike}
 use Rattle.desk_model.specs.Desk.{empty_desk}
 use Rattle.store_core.proofs.RunLemmas.{and_then}
@@ -24,12 +24,12 @@ pub now_alike : (a b : Contents) (s : State) → AreAlike a b → HoldsNow a s �
 now_alike a b s same holds c o = let it = holds c o in (tables_alike a b s.now same it.0, it.1)
 
 pub done_alike : {X E : Type 0} (r : Result X E) (a b : Contents) (s : State) → AreAlike a b
-    → OnOk r (Stand a s) → OnOk r (Stand b s)
+    → OnOk r (HoldCommitted a s) → OnOk r (HoldCommitted b s)
 done_alike r a b s same = and_then r (λ stand c o.
     let it = stand c o in
     (tables_alike a b s.now same it.0, tables_alike a b s.committed same it.1))
 
 -- tables without rows stand for the empty desk
-pub empty_stands : {X E : Type 0} (r : Result X E) (s : State) → OnOk r (Stand no_contents s)
-    → OnOk r (StandsFor empty_desk s)
+pub empty_stands : {X E : Type 0} (r : Result X E) (s : State) → OnOk r (HoldCommitted no_contents s)
+    → OnOk r (Represents empty_desk s)
 empty_stands r s = and_then r (λ stand. (λ row. None, stand))

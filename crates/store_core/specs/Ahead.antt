@@ -8,11 +8,11 @@ use Rattle.sqlite.specs.Store.{Ghosts}
 use Rattle.desk_model.specs.Desk.{Desk}
 use Rattle.desk_model.specs.IsDesk.{IsDesk}
 use Rattle.desk_model.specs.declared.rows.RequestRow.{RequestRow}
-use Rattle.store_tables.specs.Calls.{Spares}
+use Rattle.store_tables.specs.Calls.{LeavesTables}
 use Rattle.store_tables.specs.Contents.{Contents, contents_of}
 use Rattle.store_tables.specs.Contents.Request.{Dated, id_of, is_dated_after}
 use Rattle.store_tables.specs.Readings.{MismatchesInNumbers}
-use Rattle.store_tables.specs.Stands.{Stand}
+use Rattle.store_tables.specs.Stands.{HoldCommitted}
 use Rattle.store_tables.specs.declared.fault.StoreFault.{StoreFault}
 use Rattle.store_core.specs.Rows.{dated_rows, rows_numbered}
 use Rattle.store_core.specs.Seen.{state_of}
@@ -108,14 +108,14 @@ pub record Begins {S : Type 0} (g : Ghosts S)
     (IsAnswer : (RequestRow → Option ℕ) → Desk → List Dated → Type 0) (old : Store S g)
     (rows : RequestRows S g) : Type 0 where
   pub reading : rows.progress ≡ Reading
-  pub kept : Spares (state_of g old) (state_of g rows.store.now)
+  pub kept : LeavesTables (state_of g old) (state_of g rows.store.now)
   pub none_yet : (desk : Desk) → IsDesk desk → (due : RequestRow → Option ℕ)
-      → Stand (contents_of due desk) (state_of g old) → HasCleanDisk (state_of g rows.store.now)
+      → HoldCommitted (contents_of due desk) (state_of g old) → HasCleanDisk (state_of g rows.store.now)
       → (all : List Dated) × IsAnswer due desk all × HasGiven g rows due desk all []
 
 -- What a store is left as where no rows begin: the tables are as they were, no fault is of the
 -- version, and a mismatch comes only of a number that is none.
 pub record IsRefused {S X : Type 0} (g : Ghosts S) (old : Store S g) (result : Result X StoreFault)
     (new : Store S g) : Type 0 where
-  pub kept : Spares (state_of g old) (state_of g new)
+  pub kept : LeavesTables (state_of g old) (state_of g new)
   pub mismatch : MismatchesInNumbers (state_of g old) (state_of g new) result

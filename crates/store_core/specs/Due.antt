@@ -13,7 +13,7 @@ use Rattle.desk_model.specs.declared.command.Command.{Command}
 use Rattle.desk_model.specs.declared.rows.RequestRow.{RequestRow}
 use Rattle.desk_core.specs.Decision.{change_of}
 use Rattle.store_tables.specs.Contents.{contents_of}
-use Rattle.store_tables.specs.Stands.{Stand}
+use Rattle.store_tables.specs.Stands.{HoldCommitted}
 use Rattle.store_core.specs.Written.{dues_after}
 
 -- when the request of a row is due on a desk, if its queue is there: by the stays of the request of
@@ -23,14 +23,14 @@ due_of_row settings desk row =
     option_and_then (λ q. due_of settings q (stays_at desk row.id) row) (queue_at desk row.queue)
 
 -- the tables stand for the desk, and keep the due moment that each request has on it
-abbrev pub StandsDue : Settings → Desk → State → Type 0
-StandsDue settings desk = Stand (contents_of (due_of_row settings desk) desk)
+abbrev pub RepresentsWithDue : Settings → Desk → State → Type 0
+RepresentsWithDue settings desk = HoldCommitted (contents_of (due_of_row settings desk) desk)
 
 -- what is answered is so of the desk that the tables stand for with its due moments
 abbrev pub TellsDue : {X E : Type 0} → Settings → (Desk → X → Type 0) → State → State → Result X E
     → Type 0
 TellsDue settings P old new result =
-    (desk : Desk) → IsDesk desk → StandsDue settings desk old → HasCleanDisk new
+    (desk : Desk) → IsDesk desk → RepresentsWithDue settings desk old → HasCleanDisk new
     → IfOk result (P desk)
 
 -- the due moments after a change are those of the desk after it

@@ -10,7 +10,7 @@ use Rattle.desk_model.specs.Desk.{Desk}
 use Rattle.desk_model.specs.Facts.{stays_at}
 use Rattle.desk_model.specs.IsDesk.{IsDesk}
 use Rattle.desk_model.specs.declared.rows.RequestRow.{RequestRow}
-use Rattle.store_tables.specs.Calls.{Lasts, WasClean}
+use Rattle.store_tables.specs.Calls.{KeepsConnection, WasClean}
 use Rattle.store_tables.specs.Contents.{Contents, add_stay, contents_of, first_contents_of}
 use Rattle.store_tables.specs.Contents.{HasBadRow, Tables, desk_schema, front, table_count}
 use Rattle.store_tables.specs.Making.{IsKnown, IsKnownVersion, IsOfMeta, IsVersionOf, numbered}
@@ -19,8 +19,8 @@ use Rattle.store_tables.specs.Contents.Meta.{meta, version_shown}
 use Rattle.store_tables.specs.Contents.Request.{last_id_terms, request}
 use Rattle.store_tables.specs.Contents.Stay.{stay_rows}
 use Rattle.store_tables.specs.Values.{IsNumberRow, IsWholeRow}
-use Rattle.store_tables.specs.Stands.{FirstStand, GoesOn, HasFront, HasTables, HoldsNow, KeepsBase}
-use Rattle.store_tables.specs.Stands.{Stand, WhereOpen, filled}
+use Rattle.store_tables.specs.Stands.{FirstHoldCommitted, InTransaction, HasFront, HasTables, HoldsNow, KeepsCommitted}
+use Rattle.store_tables.specs.Stands.{HoldCommitted, WhereOpen, filled}
 use Rattle.store_tables.specs.declared.fault.StoreFault.{StoreFault}
 use Rattle.store_tables.specs.declared.fault.StoreFault.TheVariants.{Mismatch, Refused}
 use Rattle.store_tables.specs.declared.fault.StoreFault.TheVariants.{WrongVersion}
@@ -82,10 +82,10 @@ BringsUp old new result =
 -- commit stays, and the transaction goes on; the connection lasts
 pub record RunsOn {X : Type 0} (old new : State) (result : Result X StoreFault) : Type 0 where
   pub holds : (c : Contents) → HoldsNow c old → OnOk result ((d : Contents) × HoldsNow d new)
-  pub keeps : KeepsBase old new
-  pub goes_on : GoesOn old → OnOk result (GoesOn new)
+  pub keeps : KeepsCommitted old new
+  pub goes_on : InTransaction old → OnOk result (InTransaction new)
   pub clean : WasClean old new
-  pub lasts : Lasts old new
+  pub lasts : KeepsConnection old new
 
 -- what stays are made of has a bad row: the number of a request, or an entry, is none
 abbrev pub HasBadSource : Database → Type 0
@@ -94,7 +94,7 @@ HasBadSource db =
     ⊎ HasBadRow entry.tree entry_shown_terms IsEntryRow db
 
 -- no fault is of the version, and a mismatch comes only of such a row, in an open store
-pub record BlamesSource {X : Type 0} (old new : State) (result : Result X StoreFault) : Type 0
+pub record MismatchMeansBadSource {X : Type 0} (old new : State) (result : Result X StoreFault) : Type 0
   where
     pub known : IfErr result (λ e. e ≢ WrongVersion)
     pub mismatch : IfErr result (λ e. e ≡ Mismatch → HasTables old → HasCleanDisk new
@@ -120,14 +120,14 @@ pub record KeepsOthers {X : Type 0} (old new : State) (result : Result X StoreFa
 
 -- tables of another version than 1 stay as they are
 abbrev pub LeavesOthers : State → State → Type 0
-LeavesOthers old new = (c : Contents) → c.version ≢ 1 → Stand c old → Stand c new
+LeavesOthers old new = (c : Contents) → c.version ≢ 1 → HoldCommitted c old → HoldCommitted c new
 
 -- Where only the first n tables are there, or none, those that lack are made.
 pub record Completes {X : Type 0} (old new : State) (result : Result X StoreFault) : Type 0 where
   -- what they held, all seven hold then
-  pub held : (c : Contents) → c.version ≢ 1 → HoldsPart c old → OnOk result (Stand c new)
+  pub held : (c : Contents) → c.version ≢ 1 → HoldsPart c old → OnOk result (HoldCommitted c new)
   -- where no version was written, the present one is
-  pub numbered : (c : Contents) → HoldsUnnumbered c old → OnOk result (Stand c new)
+  pub numbered : (c : Contents) → HoldsUnnumbered c old → OnOk result (HoldCommitted c new)
   -- and the fault is that the store or memory refused it
   pub refuses : (c : Contents) → HoldsUnnumbered c old → HasCleanDisk new
       → IfErr result (λ e. e ≡ Refused)
@@ -137,9 +137,9 @@ pub record Completes {X : Type 0} (old new : State) (result : Result X StoreFaul
 abbrev pub MigratesDesk : {X : Type 0} → State → State → Result X StoreFault → Type 0
 MigratesDesk old new result =
     (desk : Desk) → IsDesk desk → (due : RequestRow → Option ℕ)
-    → FirstStand (first_contents_of due desk) old
-    → OnOk result (Stand (contents_of due desk) new)
-    × OnErr result (FirstStand (first_contents_of due desk) new)
+    → FirstHoldCommitted (first_contents_of due desk) old
+    → OnOk result (HoldCommitted (contents_of due desk) new)
+    × OnErr result (FirstHoldCommitted (first_contents_of due desk) new)
 
 -- it goes well only over a known version, and is the wrong version only over another
 abbrev pub NeedsKnown : {X : Type 0} → State → State → Result X StoreFault → Type 0
@@ -155,8 +155,8 @@ RefusesKnown old new result =
     → IfErr result (λ e. e ≡ Refused)
 
 -- a version is told to be wrong only where a row of meta shows one that isn't known
-abbrev pub BlamesUnknown : {X : Type 0} → State → State → Result X StoreFault → Type 0
-BlamesUnknown old new result =
+abbrev pub MismatchMeansUnknownName : {X : Type 0} → State → State → Result X StoreFault → Type 0
+MismatchMeansUnknownName old new result =
     HasFront old → HasCleanDisk new
     → IfErr result (λ e. e ≡ WrongVersion → (z : ℤ) × IsVersionOf old z × ¬ IsKnownVersion z)
 
@@ -192,11 +192,11 @@ LeavesPresent old new result =
 abbrev pub BringsPart : {X : Type 0} → State → State → Result X StoreFault → Type 0
 BringsPart old new result =
     (desk : Desk) → IsDesk desk → (due : RequestRow → Option ℕ)
-    → HoldsPart (first_contents_of due desk) old → OnOk result (Stand (contents_of due desk) new)
+    → HoldsPart (first_contents_of due desk) old → OnOk result (HoldCommitted (contents_of due desk) new)
 
 -- both of these of the version
 abbrev pub TellsVersion : {X : Type 0} → State → State → Result X StoreFault → Type 0
-TellsVersion old new result = NeedsKnown old new result × BlamesUnknown old new result
+TellsVersion old new result = NeedsKnown old new result × MismatchMeansUnknownName old new result
 
 -- a row of meta shows no whole number, or it shows version 1 and what stays are made of has a bad row
 abbrev pub IsBlamed : State → Type 0

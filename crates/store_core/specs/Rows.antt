@@ -8,14 +8,14 @@ use Rattle.store_tables.specs.Contents.{contents_of, request_rows}
 use Rattle.store_tables.specs.Contents.Request.{Dated, by_due, dated_by, has_number, is_due_before}
 use Rattle.store_tables.specs.Contents.Request.{is_filed_in}
 use Rattle.store_tables.specs.Picked.{AreOrdered}
-use Rattle.store_tables.specs.Stands.{Stand}
+use Rattle.store_tables.specs.Stands.{HoldCommitted}
 
 -- what is answered is so of the desk that the tables stand for and of the due moments beside it
 abbrev pub TellsDated : {X E : Type 0} → ((RequestRow → Option ℕ) → Desk → X → Type 0)
     → State → State → Result X E → Type 0
 TellsDated P old new result =
     (desk : Desk) → IsDesk desk → (due : RequestRow → Option ℕ)
-    → Stand (contents_of due desk) old → HasCleanDisk new → IfOk result (P due desk)
+    → HoldCommitted (contents_of due desk) old → HasCleanDisk new → IfOk result (P due desk)
 
 -- the rows of all requests, in the order of their numbers
 abbrev pub dated_rows : (RequestRow → Option ℕ) → Desk → List Dated

@@ -1,7 +1,7 @@
 //! A change is written, whole or not at all.
 ghost use Rattle.std.specs.Prelude.{◌≡◌, IfErr, OnErr};
-ghost use Rattle.store_tables.specs.Calls.{Lasts, Spares, WasClean};
-ghost use Rattle.store_tables.specs.Stands.{GoesBack};
+ghost use Rattle.store_tables.specs.Calls.{KeepsConnection, LeavesTables, WasClean};
+ghost use Rattle.store_tables.specs.Stands.{RolledBack};
 ghost use Rattle.store_tables.specs.declared.fault.StoreFault.{StoreFault};
 ghost use Rattle.store_core.specs.Applying.{Applies, Writes};
 ghost use Rattle.store_core.specs.Seen.{state_of};
@@ -18,9 +18,9 @@ use store_tables::{StoreFault, Tables};
 fn apply_change<S: Alter>(tables: &mut Tables<S>, change: &Change) -> Result<(), StoreFault>
     ensures done { Writes change.now (seen S.Store tables.old) (seen S.Store tables.new) result }
     ensures undone { OnErr result
-        (GoesBack (seen S.Store tables.old) (seen S.Store tables.new)) }
+        (RolledBack (seen S.Store tables.old) (seen S.Store tables.new)) }
     ensures honest { WasClean (seen S.Store tables.old) (seen S.Store tables.new) }
-    ensures lasts { Lasts (seen S.Store tables.old) (seen S.Store tables.new) }
+    ensures lasts { KeepsConnection (seen S.Store tables.old) (seen S.Store tables.new) }
     ensures fault { IfErr result (λ e. e ≡ StoreFault.Refused) }
 {
     let mut tx = tables.conn.transaction();
@@ -39,9 +39,9 @@ impl<S: Alter> Store<S> {
         ensures rows { Writes change.now
             (state_of S.Store self.old) (state_of S.Store self.new) result }
         ensures undone { OnErr result
-            (Spares (state_of S.Store self.old) (state_of S.Store self.new)) }
+            (LeavesTables (state_of S.Store self.old) (state_of S.Store self.new)) }
         ensures honest { WasClean (state_of S.Store self.old) (state_of S.Store self.new) }
-        ensures lasts { Lasts (state_of S.Store self.old) (state_of S.Store self.new) }
+        ensures lasts { KeepsConnection (state_of S.Store self.old) (state_of S.Store self.new) }
         ensures fault { IfErr result (λ e. e ≡ StoreFault.Refused) }
     {
         apply_change(&mut self.tables, change)

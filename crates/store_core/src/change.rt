@@ -2,7 +2,7 @@
 ghost use Rattle.std.specs.Prelude.{◌≡◌, fold, IfErr, IfOk, length};
 ghost use Rattle.std.specs.Option.{option_copied};
 ghost use Rattle.sqlite.specs.Held.{state};
-ghost use Rattle.store_tables.specs.Calls.{Does};
+ghost use Rattle.store_tables.specs.Calls.{StatementChanges};
 ghost use Rattle.store_tables.specs.Contents.{add_entry};
 ghost use Rattle.store_tables.specs.Contents.{add_watcher, drop_watcher as without_watcher};
 ghost use Rattle.store_tables.specs.declared.fault.StoreFault.{StoreFault};
@@ -25,7 +25,7 @@ fn file_request<S: Alter>(
     due: Option<Minute>,
 ) -> Result<(), StoreFault>
     ensures same_reference { tx.new.conn.ghost_name ≡ tx.old.conn.ghost_name }
-    ensures filed { Does (request_added filed.now due)
+    ensures filed { StatementChanges (request_added filed.now due)
         (state S.Store tx.old.conn.now) (state S.Store tx.new.conn.now) result }
 {
     match filed {
@@ -41,7 +41,7 @@ fn revise_request<S: Alter>(
     due: Option<Minute>,
 ) -> Result<(), StoreFault>
     ensures same_reference { tx.new.conn.ghost_name ≡ tx.old.conn.ghost_name }
-    ensures set { Does (request_set row.now due)
+    ensures set { StatementChanges (request_set row.now due)
         (state S.Store tx.old.conn.now) (state S.Store tx.new.conn.now) result }
 {
     match row {
@@ -53,7 +53,7 @@ fn revise_request<S: Alter>(
 /// Writes the queue and the rows of requests.
 fn write_rows<S: Alter>(tx: &mut Transaction<'_, S>, change: &Change) -> Result<(), StoreFault>
     ensures same_reference { tx.new.conn.ghost_name ≡ tx.old.conn.ghost_name }
-    ensures made { Does (λ c. request_set change.now.row (change.now.due)
+    ensures made { StatementChanges (λ c. request_set change.now.row (change.now.due)
         (request_added change.now.filed (change.now.due) (queue_added change.now.queue c)))
         (state S.Store tx.old.conn.now) (state S.Store tx.new.conn.now) result }
 {
@@ -65,7 +65,7 @@ fn write_rows<S: Alter>(tx: &mut Transaction<'_, S>, change: &Change) -> Result<
 /// Puts persons into roles, and takes persons out of roles.
 fn write_persons<S: Alter>(tx: &mut Transaction<'_, S>, change: &Change) -> Result<(), StoreFault>
     ensures same_reference { tx.new.conn.ghost_name ≡ tx.old.conn.ghost_name }
-    ensures made { Does (λ c. fold without_watcher (fold add_watcher c change.now.put)
+    ensures made { StatementChanges (λ c. fold without_watcher (fold add_watcher c change.now.put)
         change.now.taken)
         (state S.Store tx.old.conn.now) (state S.Store tx.new.conn.now) result }
 {
@@ -76,7 +76,7 @@ fn write_persons<S: Alter>(tx: &mut Transaction<'_, S>, change: &Change) -> Resu
 /// Adds a link, and takes one out.
 fn write_links<S: Alter>(tx: &mut Transaction<'_, S>, change: &Change) -> Result<(), StoreFault>
     ensures same_reference { tx.new.conn.ghost_name ≡ tx.old.conn.ghost_name }
-    ensures made { Does (λ c. link_dropped change.now.unlinked (link_added change.now.linked c))
+    ensures made { StatementChanges (λ c. link_dropped change.now.unlinked (link_added change.now.linked c))
         (state S.Store tx.old.conn.now) (state S.Store tx.new.conn.now) result }
 {
     put_any(tx, &change.linked)?;
@@ -101,7 +101,7 @@ fn end_before<S: Alter>(
     until: Minute,
 ) -> Result<(), StoreFault>
     ensures same_reference { tx.new.conn.ghost_name ≡ tx.old.conn.ghost_name }
-    ensures ended { Does (spec.stay_ended id number until)
+    ensures ended { StatementChanges (spec.stay_ended id number until)
         (state S.Store tx.old.conn.now) (state S.Store tx.new.conn.now) result }
 {
     if number == 0 {
@@ -119,7 +119,7 @@ fn put_last<S: Alter>(
     last: Option<&Stay>,
 ) -> Result<(), StoreFault>
     ensures same_reference { tx.new.conn.ghost_name ≡ tx.old.conn.ghost_name }
-    ensures put { Does (spec.stay_put id number (option_copied last.entry))
+    ensures put { StatementChanges (spec.stay_put id number (option_copied last.entry))
         (state S.Store tx.old.conn.now) (state S.Store tx.new.conn.now) result }
 {
     match last {
@@ -149,7 +149,7 @@ fn begin_stay<S: Alter>(
     stays: &[Stay],
 ) -> Result<(), StoreFault>
     ensures same_reference { tx.new.conn.ghost_name ≡ tx.old.conn.ghost_name }
-    ensures begun { Does (spec.stay_put id (length stays.now) (spec.last_of stays.now))
+    ensures begun { StatementChanges (spec.stay_put id (length stays.now) (spec.last_of stays.now))
         (state S.Store tx.old.conn.now) (state S.Store tx.new.conn.now) result }
 {
     let count = count_stays(stays)?;
@@ -159,7 +159,7 @@ fn begin_stay<S: Alter>(
 /// Begins a stay, if an entry of the change does.
 fn write_stay<S: Alter>(tx: &mut Transaction<'_, S>, change: &Change) -> Result<(), StoreFault>
     ensures same_reference { tx.new.conn.ghost_name ≡ tx.old.conn.ghost_name }
-    ensures made { Does (spec.stay_begun (spec.begun_on change.now.entries) change.now.stays)
+    ensures made { StatementChanges (spec.stay_begun (spec.begun_on change.now.entries) change.now.stays)
         (state S.Store tx.old.conn.now) (state S.Store tx.new.conn.now) result }
 {
     match begun_on(change.entries.as_slice()) {
@@ -171,7 +171,7 @@ fn write_stay<S: Alter>(tx: &mut Transaction<'_, S>, change: &Change) -> Result<
 /// Adds the entries, and the stay that one of them begins.
 fn write_history<S: Alter>(tx: &mut Transaction<'_, S>, change: &Change) -> Result<(), StoreFault>
     ensures same_reference { tx.new.conn.ghost_name ≡ tx.old.conn.ghost_name }
-    ensures made { Does (λ c. spec.stay_begun (spec.begun_on change.now.entries) change.now.stays
+    ensures made { StatementChanges (λ c. spec.stay_begun (spec.begun_on change.now.entries) change.now.stays
         (fold add_entry c change.now.entries))
         (state S.Store tx.old.conn.now) (state S.Store tx.new.conn.now) result }
 {
@@ -185,7 +185,7 @@ pub(crate) fn write_change<S: Alter>(
     change: &Change,
 ) -> Result<(), StoreFault>
     ensures same_reference { tx.new.conn.ghost_name ≡ tx.old.conn.ghost_name }
-    ensures made { Does (written change.now)
+    ensures made { StatementChanges (written change.now)
         (state S.Store tx.old.conn.now) (state S.Store tx.new.conn.now) result }
 {
     write_rows(tx, change)?;

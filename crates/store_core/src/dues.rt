@@ -1,7 +1,7 @@
 //! Due moments are written, all or none.
 ghost use Rattle.std.specs.Prelude.{◌≡◌, IfErr, OnErr};
-ghost use Rattle.store_tables.specs.Calls.{Lasts, Spares, WasClean};
-ghost use Rattle.store_tables.specs.Stands.{GoesBack};
+ghost use Rattle.store_tables.specs.Calls.{KeepsConnection, LeavesTables, WasClean};
+ghost use Rattle.store_tables.specs.Stands.{RolledBack};
 ghost use Rattle.store_tables.specs.declared.fault.StoreFault.{StoreFault};
 ghost use Rattle.store_core.specs.Applying.{DatesDesk, WritesDues};
 ghost use Rattle.store_core.specs.Seen.{state_of};
@@ -21,9 +21,9 @@ fn write_dues<S: Alter>(
 ) -> Result<(), StoreFault>
     ensures done { WritesDues dues.now (seen S.Store tables.old) (seen S.Store tables.new) result }
     ensures undone { OnErr result
-        (GoesBack (seen S.Store tables.old) (seen S.Store tables.new)) }
+        (RolledBack (seen S.Store tables.old) (seen S.Store tables.new)) }
     ensures honest { WasClean (seen S.Store tables.old) (seen S.Store tables.new) }
-    ensures lasts { Lasts (seen S.Store tables.old) (seen S.Store tables.new) }
+    ensures lasts { KeepsConnection (seen S.Store tables.old) (seen S.Store tables.new) }
     ensures fault { IfErr result (λ e. e ≡ StoreFault.Refused) }
 {
     let mut tx = tables.conn.transaction();
@@ -36,15 +36,15 @@ impl<S: Alter> Store<S> {
     /// number that no request has is passed over, of a repeated number the last stands, and the
     /// empty list changes nothing. `Refused` where the store refuses a statement, or the disk or
     /// memory fails. On a fault the tables stay as they are, whatever rows they have.
-    pub fn set_dues(&mut self, dues: &[(u32, Option<Minute>)]) -> Result<(), StoreFault>
+    pub fn set_due_times(&mut self, dues: &[(u32, Option<Minute>)]) -> Result<(), StoreFault>
         ensures done { DatesDesk dues.now
             (state_of S.Store self.old) (state_of S.Store self.new) result }
         ensures rows { WritesDues dues.now
             (state_of S.Store self.old) (state_of S.Store self.new) result }
         ensures undone { OnErr result
-            (Spares (state_of S.Store self.old) (state_of S.Store self.new)) }
+            (LeavesTables (state_of S.Store self.old) (state_of S.Store self.new)) }
         ensures honest { WasClean (state_of S.Store self.old) (state_of S.Store self.new) }
-        ensures lasts { Lasts (state_of S.Store self.old) (state_of S.Store self.new) }
+        ensures lasts { KeepsConnection (state_of S.Store self.old) (state_of S.Store self.new) }
         ensures fault { IfErr result (λ e. e ≡ StoreFault.Refused) }
     {
         write_dues(&mut self.tables, dues)

@@ -10,8 +10,8 @@ ghost use Rattle.desk_model.specs.Plan.{Dependencies, besides_on};
 ghost use Rattle.desk_model.specs.Scope.{seen_in};
 ghost use Rattle.desk_model.specs.Step.{facts_of};
 ghost use Rattle.store_tables.specs.declared.fault.StoreFault.{StoreFault};
-ghost use Rattle.store_tables.specs.Calls.{OnlyRefuses, Spares, Tells};
-ghost use Rattle.store_tables.specs.Readings.{Blames, OfDesk, Reads};
+ghost use Rattle.store_tables.specs.Calls.{OnlyRefuses, LeavesTables, Tells};
+ghost use Rattle.store_tables.specs.Readings.{MismatchMeansBadRow, OfDesk, Reads};
 ghost use Rattle.store_core.specs.Found as found;
 ghost use Rattle.store_core.specs.Seen.{state_of};
 ghost use Rattle.store_tables.specs.Seen.{seen};
@@ -37,13 +37,13 @@ impl<S: Alter> Store<S> {
     pub fn facts_for(&mut self, alloc: Global, command: &Command) -> Result<Facts, StoreFault>
         ensures told { Tells (λ desk facts. facts ≡ facts_of command.now desk)
             (state_of S.Store self.old) (state_of S.Store self.new) result }
-        ensures kept { Spares (state_of S.Store self.old) (state_of S.Store self.new) }
+        ensures kept { LeavesTables (state_of S.Store self.old) (state_of S.Store self.new) }
         ensures refuses { OnlyRefuses
             (state_of S.Store self.old) (state_of S.Store self.new) result }
         ensures fault { IfErr result (λ e. e ≢ StoreFault.WrongVersion) }
-        ensures blames { Blames (state_of S.Store self.old) (state_of S.Store self.new) result }
+        ensures blames { MismatchMeansBadRow (state_of S.Store self.old) (state_of S.Store self.new) result }
     {
-        facts_in(alloc, &mut self.tables, command.scope())
+        facts_by_scope(alloc, &mut self.tables, command.scope())
     }
 
     /// The queue with that name, or none, by one read. `Mismatch` where the row is no queue,
@@ -52,18 +52,18 @@ impl<S: Alter> Store<S> {
     pub fn queue_named(&mut self, name: &Text) -> Result<Option<QueueRow>, StoreFault>
         ensures told { Tells (λ desk queue. queue ≡ desk_at.queue_at desk name.now)
             (state_of S.Store self.old) (state_of S.Store self.new) result }
-        ensures kept { Spares (state_of S.Store self.old) (state_of S.Store self.new) }
+        ensures kept { LeavesTables (state_of S.Store self.old) (state_of S.Store self.new) }
         ensures refuses { OnlyRefuses
             (state_of S.Store self.old) (state_of S.Store self.new) result }
         ensures fault { IfErr result (λ e. e ≢ StoreFault.WrongVersion) }
-        ensures blames { Blames (state_of S.Store self.old) (state_of S.Store self.new) result }
+        ensures blames { MismatchMeansBadRow (state_of S.Store self.old) (state_of S.Store self.new) result }
     {
         queue_at(&mut self.tables, name)
     }
 }
 
 /// What is seen of a desk in a scope.
-fn facts_in<S: Alter>(
+fn facts_by_scope<S: Alter>(
     alloc: Global,
     tables: &mut Tables<S>,
     scope: Scope<'_>,
@@ -76,7 +76,7 @@ fn facts_in<S: Alter>(
         Scope::QueueAlone(name) => facts_of_queue(alloc, tables, name),
         Scope::Queue(name) => facts_on_queue(alloc, tables, name),
         Scope::RequestAlone(id) => facts_of(alloc, tables, id),
-        Scope::Request(id) => facts_on(alloc, tables, id),
+        Scope::Request(id) => request_facts_with_stays(alloc, tables, id),
         Scope::Dependencies(id) => facts_of_move(alloc, tables, id),
         Scope::Link(link) => facts_of_link(alloc, tables, link),
     }
@@ -122,7 +122,11 @@ fn facts_of<S: Alter>(alloc: Global, tables: &mut Tables<S>, id: u32) -> Result<
 }
 
 /// Of one that puts another row, and of a reading of a request: its stays too.
-fn facts_on<S: Alter>(alloc: Global, tables: &mut Tables<S>, id: u32) -> Result<Facts, StoreFault>
+fn request_facts_with_stays<S: Alter>(
+    alloc: Global,
+    tables: &mut Tables<S>,
+    id: u32,
+) -> Result<Facts, StoreFault>
     ensures { Reads (OfDesk (λ desk seen. seen ≡ facts.facts_on_request desk id))
         (seen S.Store tables.old) (seen S.Store tables.new) result }
 {
@@ -141,7 +145,7 @@ fn facts_of_move<S: Alter>(
     ensures { Reads (OfDesk (λ desk seen. seen ≡ besides_on Dependencies id desk))
         (seen S.Store tables.old) (seen S.Store tables.new) result }
 {
-    let facts = facts_on(alloc, tables, id)?;
+    let facts = request_facts_with_stays(alloc, tables, id)?;
     if facts.request.is_none() {
         return Ok(facts);
     }

@@ -20,7 +20,7 @@
 //!   once. A `RequestRows` may be dropped at any row. After a fault it always answers `Refused`.
 //! - `facts_for` is what a command sees of the desk (`facts_of`). Requests and entries are counted by
 //!   the last number, queues by `count(*)`.
-//! - `apply` writes a change in one transaction (`Applies`), `set_dues` due moments (`DatesDesk`). On
+//! - `apply` writes a change in one transaction (`Applies`), `set_due_times` due moments (`DatesDesk`). On
 //!   a fault all is as it was, whatever rows there are. `set_step_limit` limits later statements, and
 //!   no other call changes the limit.
 //!

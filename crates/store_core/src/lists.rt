@@ -1,7 +1,7 @@
 //! The lists of a store, each in the order of its key.
 ghost use Rattle.std.specs.Prelude.{◌≡◌, filter, IsPermutation, map};
 ghost use Rattle.desk_model.specs.Facts.{stays_at};
-ghost use Rattle.store_tables.specs.Calls.{Spares, Tells};
+ghost use Rattle.store_tables.specs.Calls.{LeavesTables, Tells};
 ghost use Rattle.store_tables.specs.Contents.{actors, history_at, request_rows, watchers};
 ghost use Rattle.store_tables.specs.Contents.Link.{ends_at, starts_at};
 ghost use Rattle.store_tables.specs.Contents.Request.{is_filed_in};
@@ -33,7 +33,7 @@ impl<S: Alter> Store<S> {
             (state_of S.Store self.old) (state_of S.Store self.new) result }
         ensures tested { TestsQueues
             (state_of S.Store self.old) (state_of S.Store self.new) result }
-        ensures kept { Spares (state_of S.Store self.old) (state_of S.Store self.new) }
+        ensures kept { LeavesTables (state_of S.Store self.old) (state_of S.Store self.new) }
     {
         queue::queues(alloc, &mut self.tables)
     }
@@ -45,7 +45,7 @@ impl<S: Alter> Store<S> {
             (state_of S.Store self.old) (state_of S.Store self.new) result }
         ensures tested { TestsRequests
             (state_of S.Store self.old) (state_of S.Store self.new) result }
-        ensures kept { Spares (state_of S.Store self.old) (state_of S.Store self.new) }
+        ensures kept { LeavesTables (state_of S.Store self.old) (state_of S.Store self.new) }
     {
         request::requests(alloc, &mut self.tables)
     }
@@ -62,7 +62,7 @@ impl<S: Alter> Store<S> {
             (state_of S.Store self.old) (state_of S.Store self.new) result }
         ensures mismatch { MismatchesInRequests
             (state_of S.Store self.old) (state_of S.Store self.new) result }
-        ensures kept { Spares (state_of S.Store self.old) (state_of S.Store self.new) }
+        ensures kept { LeavesTables (state_of S.Store self.old) (state_of S.Store self.new) }
     {
         request::requests_of(alloc, &mut self.tables, queue)
     }
@@ -78,7 +78,7 @@ impl<S: Alter> Store<S> {
             (state_of S.Store self.old) (state_of S.Store self.new) result }
         ensures tested { TestsDated
             (state_of S.Store self.old) (state_of S.Store self.new) result }
-        ensures kept { Spares (state_of S.Store self.old) (state_of S.Store self.new) }
+        ensures kept { LeavesTables (state_of S.Store self.old) (state_of S.Store self.new) }
     {
         dated::dated_requests(alloc, &mut self.tables)
     }
@@ -95,7 +95,7 @@ impl<S: Alter> Store<S> {
             (state_of S.Store self.old) (state_of S.Store self.new) result }
         ensures mismatch { MismatchesInDated
             (state_of S.Store self.old) (state_of S.Store self.new) result }
-        ensures kept { Spares (state_of S.Store self.old) (state_of S.Store self.new) }
+        ensures kept { LeavesTables (state_of S.Store self.old) (state_of S.Store self.new) }
     {
         dated::dated_of(alloc, &mut self.tables, queue)
     }
@@ -113,7 +113,7 @@ impl<S: Alter> Store<S> {
             (state_of S.Store self.old) (state_of S.Store self.new) result }
         ensures mismatch { MismatchesInDated
             (state_of S.Store self.old) (state_of S.Store self.new) result }
-        ensures kept { Spares (state_of S.Store self.old) (state_of S.Store self.new) }
+        ensures kept { LeavesTables (state_of S.Store self.old) (state_of S.Store self.new) }
     {
         dated::dated_before(alloc, &mut self.tables, at)
     }
@@ -125,7 +125,7 @@ impl<S: Alter> Store<S> {
             (state_of S.Store self.old) (state_of S.Store self.new) result }
         ensures tested { TestsLinks
             (state_of S.Store self.old) (state_of S.Store self.new) result }
-        ensures kept { Spares (state_of S.Store self.old) (state_of S.Store self.new) }
+        ensures kept { LeavesTables (state_of S.Store self.old) (state_of S.Store self.new) }
     {
         link::links(alloc, &mut self.tables)
     }
@@ -138,7 +138,7 @@ impl<S: Alter> Store<S> {
             (state_of S.Store self.old) (state_of S.Store self.new) result }
         ensures mismatch { MismatchesInLinks
             (state_of S.Store self.old) (state_of S.Store self.new) result }
-        ensures kept { Spares (state_of S.Store self.old) (state_of S.Store self.new) }
+        ensures kept { LeavesTables (state_of S.Store self.old) (state_of S.Store self.new) }
     {
         link::links_from(alloc, &mut self.tables, source)
     }
@@ -151,7 +151,7 @@ impl<S: Alter> Store<S> {
             (state_of S.Store self.old) (state_of S.Store self.new) result }
         ensures mismatch { MismatchesInLinks
             (state_of S.Store self.old) (state_of S.Store self.new) result }
-        ensures kept { Spares (state_of S.Store self.old) (state_of S.Store self.new) }
+        ensures kept { LeavesTables (state_of S.Store self.old) (state_of S.Store self.new) }
     {
         link::links_to(alloc, &mut self.tables, target)
     }
@@ -163,7 +163,7 @@ impl<S: Alter> Store<S> {
             (state_of S.Store self.old) (state_of S.Store self.new) result }
         ensures tested { TestsWatchers
             (state_of S.Store self.old) (state_of S.Store self.new) result }
-        ensures kept { Spares (state_of S.Store self.old) (state_of S.Store self.new) }
+        ensures kept { LeavesTables (state_of S.Store self.old) (state_of S.Store self.new) }
     {
         watcher::watchers(alloc, &mut self.tables)
     }
@@ -176,7 +176,7 @@ impl<S: Alter> Store<S> {
             (state_of S.Store self.old) (state_of S.Store self.new) result }
         ensures mismatch { MismatchesInWatchers
             (state_of S.Store self.old) (state_of S.Store self.new) result }
-        ensures kept { Spares (state_of S.Store self.old) (state_of S.Store self.new) }
+        ensures kept { LeavesTables (state_of S.Store self.old) (state_of S.Store self.new) }
     {
         watcher::watches_of(alloc, &mut self.tables, person)
     }
@@ -189,7 +189,7 @@ impl<S: Alter> Store<S> {
             (state_of S.Store self.old) (state_of S.Store self.new) result }
         ensures mismatch { MismatchesInEntries
             (state_of S.Store self.old) (state_of S.Store self.new) result }
-        ensures kept { Spares (state_of S.Store self.old) (state_of S.Store self.new) }
+        ensures kept { LeavesTables (state_of S.Store self.old) (state_of S.Store self.new) }
     {
         entry::entries_of(alloc, &mut self.tables, id)
     }
@@ -201,7 +201,7 @@ impl<S: Alter> Store<S> {
             (state_of S.Store self.old) (state_of S.Store self.new) result }
         ensures mismatch { MismatchesInStays
             (state_of S.Store self.old) (state_of S.Store self.new) result }
-        ensures kept { Spares (state_of S.Store self.old) (state_of S.Store self.new) }
+        ensures kept { LeavesTables (state_of S.Store self.old) (state_of S.Store self.new) }
     {
         stay::stays_of(alloc, &mut self.tables, id)
     }
@@ -214,7 +214,7 @@ impl<S: Alter> Store<S> {
             (state_of S.Store self.old) (state_of S.Store self.new) result }
         ensures tested { TestsStays
             (state_of S.Store self.old) (state_of S.Store self.new) result }
-        ensures kept { Spares (state_of S.Store self.old) (state_of S.Store self.new) }
+        ensures kept { LeavesTables (state_of S.Store self.old) (state_of S.Store self.new) }
     {
         stay::stays(alloc, &mut self.tables)
     }
@@ -227,7 +227,7 @@ impl<S: Alter> Store<S> {
             (state_of S.Store self.old) (state_of S.Store self.new) result }
         ensures tested { TestsEntries
             (state_of S.Store self.old) (state_of S.Store self.new) result }
-        ensures kept { Spares (state_of S.Store self.old) (state_of S.Store self.new) }
+        ensures kept { LeavesTables (state_of S.Store self.old) (state_of S.Store self.new) }
     {
         entry::actors(alloc, &mut self.tables)
     }

@@ -2,16 +2,16 @@
 ghost use Rattle.std.specs.Prelude.{◌≡◌, ◌≢◌, ℕ, IfErr, IfOk, map, OnErr, OnOk, Option, ⊤};
 ghost use Rattle.sqlite.specs.Held.{state};
 ghost use Rattle.sqlite.specs.State.{HasCleanDisk};
-ghost use Rattle.store_tables.specs.Calls.{Lasts, Runs, WasClean};
+ghost use Rattle.store_tables.specs.Calls.{KeepsConnection, StatementRuns, WasClean};
 ghost use Rattle.desk_model.specs.Desk.{Desk};
 ghost use Rattle.desk_model.specs.IsDesk.{IsDesk};
 ghost use Rattle.desk_model.specs.declared.rows.RequestRow.{RequestRow};
 ghost use Rattle.store_tables.specs.Contents.{Contents, contents_of, first_contents_of};
 ghost use Rattle.store_tables.specs.Contents.{table_texts};
 ghost use Rattle.store_tables.specs.Making.{IsKnown};
-ghost use Rattle.store_tables.specs.Stands.{GoesBack, GoesOn, HoldsNow, KeepsBase};
+ghost use Rattle.store_tables.specs.Stands.{RolledBack, InTransaction, HoldsNow, KeepsCommitted};
 ghost use Rattle.store_tables.specs.declared.fault.StoreFault.{StoreFault};
-ghost use Rattle.store_core.specs.Migrating.{BlamesUnknown, BringsPart, Completes, Grows, HoldsPart};
+ghost use Rattle.store_core.specs.Migrating.{MismatchMeansUnknownName, BringsPart, Completes, Grows, HoldsPart};
 ghost use Rattle.store_core.specs.Migrating.{HoldsUnnumbered, MismatchesInMaking, NeedsKnown};
 ghost use Rattle.store_core.specs.Migrating.{LeavesInside, LeavesPresent, NeedsVersion, RefusesKnown};
 ghost use Rattle.store_tables.specs.Seen.{seen};
@@ -28,7 +28,7 @@ fn make_tables<S: Alter>(tx: &mut Transaction<'_, S>, texts: &[&str]) -> Result<
     ensures same_reference { tx.new.conn.ghost_name ≡ tx.old.conn.ghost_name }
     ensures grows { map (λ text. text.now) texts.now ≡ table_texts →
         OnOk result (Grows (state S.Store tx.old.conn.now) (state S.Store tx.new.conn.now)) }
-    ensures runs { Runs (λ done. ⊤)
+    ensures runs { StatementRuns (λ done. ⊤)
         (state S.Store tx.old.conn.now) (state S.Store tx.new.conn.now) result }
 {
     for sql in texts {
@@ -47,9 +47,9 @@ fn make_all<S: Alter>(alloc: Global, tx: &mut Transaction<'_, S>) -> Result<(), 
     ensures brings { (desk : Desk) → IsDesk desk → (due : RequestRow → Option ℕ) →
         HoldsPart (first_contents_of due desk) (state S.Store tx.old.conn.now) →
         OnOk result (HoldsNow (contents_of due desk) (state S.Store tx.new.conn.now)) }
-    ensures keeps { KeepsBase (state S.Store tx.old.conn.now) (state S.Store tx.new.conn.now) }
-    ensures goes_on { GoesOn (state S.Store tx.old.conn.now) →
-        OnOk result (GoesOn (state S.Store tx.new.conn.now)) }
+    ensures keeps { KeepsCommitted (state S.Store tx.old.conn.now) (state S.Store tx.new.conn.now) }
+    ensures goes_on { InTransaction (state S.Store tx.old.conn.now) →
+        OnOk result (InTransaction (state S.Store tx.new.conn.now)) }
     ensures known { (c : Contents) → HoldsPart c (state S.Store tx.old.conn.now) →
         HasCleanDisk (state S.Store tx.new.conn.now) →
         IfOk result (λ done. IsKnown c.version) }
@@ -63,10 +63,10 @@ fn make_all<S: Alter>(alloc: Global, tx: &mut Transaction<'_, S>) -> Result<(), 
         HoldsPart c (state S.Store tx.old.conn.now) → HasCleanDisk (state S.Store tx.new.conn.now) →
         IfErr result (λ e. e ≡ StoreFault.Refused) }
     ensures honest { WasClean (state S.Store tx.old.conn.now) (state S.Store tx.new.conn.now) }
-    ensures lasts { Lasts (state S.Store tx.old.conn.now) (state S.Store tx.new.conn.now) }
+    ensures lasts { KeepsConnection (state S.Store tx.old.conn.now) (state S.Store tx.new.conn.now) }
     ensures mismatch { MismatchesInMaking
         (state S.Store tx.old.conn.now) (state S.Store tx.new.conn.now) result }
-    ensures blames { BlamesUnknown
+    ensures blames { MismatchMeansUnknownName
         (state S.Store tx.old.conn.now) (state S.Store tx.new.conn.now) result }
     ensures over { NeedsVersion
         (state S.Store tx.old.conn.now) (state S.Store tx.new.conn.now) result }
@@ -84,12 +84,12 @@ pub(crate) fn make_schema<S: Alter>(alloc: Global, tables: &mut Tables<S>) -> Re
     ensures over { NeedsVersion (seen S.Store tables.old) (seen S.Store tables.new) result }
     ensures alone { LeavesPresent (seen S.Store tables.old) (seen S.Store tables.new) result }
     ensures back { OnErr result
-        (GoesBack (seen S.Store tables.old) (seen S.Store tables.new)) }
+        (RolledBack (seen S.Store tables.old) (seen S.Store tables.new)) }
     ensures honest { WasClean (seen S.Store tables.old) (seen S.Store tables.new) }
-    ensures lasts { Lasts (seen S.Store tables.old) (seen S.Store tables.new) }
+    ensures lasts { KeepsConnection (seen S.Store tables.old) (seen S.Store tables.new) }
     ensures version { NeedsKnown (seen S.Store tables.old) (seen S.Store tables.new) result }
     ensures refuses { RefusesKnown (seen S.Store tables.old) (seen S.Store tables.new) result }
-    ensures blames { BlamesUnknown (seen S.Store tables.old) (seen S.Store tables.new) result }
+    ensures blames { MismatchMeansUnknownName (seen S.Store tables.old) (seen S.Store tables.new) result }
     ensures mismatch { MismatchesInMaking
         (seen S.Store tables.old) (seen S.Store tables.new) result }
 {

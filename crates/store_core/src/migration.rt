@@ -5,7 +5,7 @@ ghost use Rattle.desk_model.specs.IsDesk.{ids};
 ghost use Rattle.desk_model.specs.Stays as spec;
 ghost use Rattle.store_tables.specs.Stands.{OnlyStaysChange};
 ghost use Rattle.store_tables.specs.declared.fault.StoreFault.{StoreFault};
-ghost use Rattle.store_core.specs.Migrating.{BlamesSource, BringsUp, FillsStays, RefusesOn};
+ghost use Rattle.store_core.specs.Migrating.{MismatchMeansBadSource, BringsUp, FillsStays, RefusesOn};
 ghost use Rattle.store_core.specs.Migrating.{RunsOn};
 
 use desk_core::Entry;
@@ -40,7 +40,7 @@ fn fill_one<S: Alter>(alloc: Global, tx: &mut Transaction<'_, S>, id: u32) -> Re
     ensures on { RunsOn (state S.Store tx.old.conn.now) (state S.Store tx.new.conn.now) result }
     ensures refuses { RefusesOn
         (state S.Store tx.old.conn.now) (state S.Store tx.new.conn.now) result }
-    ensures blames { BlamesSource
+    ensures blames { MismatchMeansBadSource
         (state S.Store tx.old.conn.now) (state S.Store tx.new.conn.now) result }
 {
     let entries = entries_inside(alloc, tx, id)?;
@@ -60,7 +60,7 @@ fn fill_each<S: Alter>(
     ensures on { RunsOn (state S.Store tx.old.conn.now) (state S.Store tx.new.conn.now) result }
     ensures refuses { RefusesOn
         (state S.Store tx.old.conn.now) (state S.Store tx.new.conn.now) result }
-    ensures blames { BlamesSource
+    ensures blames { MismatchMeansBadSource
         (state S.Store tx.old.conn.now) (state S.Store tx.new.conn.now) result }
 {
     for id in ids {
@@ -77,7 +77,7 @@ fn fill_stays<S: Alter>(alloc: Global, tx: &mut Transaction<'_, S>) -> Result<()
     ensures on { RunsOn (state S.Store tx.old.conn.now) (state S.Store tx.new.conn.now) result }
     ensures refuses { RefusesOn
         (state S.Store tx.old.conn.now) (state S.Store tx.new.conn.now) result }
-    ensures blames { BlamesSource
+    ensures blames { MismatchMeansBadSource
         (state S.Store tx.old.conn.now) (state S.Store tx.new.conn.now) result }
 {
     let ids = numbers_inside(alloc, tx)?;
@@ -95,7 +95,7 @@ pub(crate) fn migrate<S: Alter>(
     ensures on { RunsOn (state S.Store tx.old.conn.now) (state S.Store tx.new.conn.now) result }
     ensures refuses { RefusesOn
         (state S.Store tx.old.conn.now) (state S.Store tx.new.conn.now) result }
-    ensures blames { BlamesSource
+    ensures blames { MismatchMeansBadSource
         (state S.Store tx.old.conn.now) (state S.Store tx.new.conn.now) result }
 {
     fill_stays(alloc, tx)?;

@@ -2,7 +2,7 @@
 ghost use Rattle.std.specs.Prelude.{◌≡◌, ◌≢◌, false, IfErr, IfOk, None, OnErr};
 ghost use Rattle.sqlite.specs.State.{HasCleanDisk};
 ghost use Rattle.sqlite.specs.Steps.{over_memory};
-ghost use Rattle.store_tables.specs.Calls.{Answers, AreLeft, Lasts, Spares, WasClean};
+ghost use Rattle.store_tables.specs.Calls.{Answers, AreLeft, KeepsConnection, LeavesTables, WasClean};
 ghost use Rattle.store_tables.specs.Making.{IsBlank, IsOfMeta, MakesDesk, ReadsMeta, RefusesBlank};
 ghost use Rattle.store_tables.specs.declared.fault.StoreFault.{StoreFault};
 ghost use Rattle.store_core.specs.Migrating.{BringsPart, Completes, LeavesOthers, LeavesPresent};
@@ -76,7 +76,7 @@ impl<S: Alter> Store<S> {
         ensures spared { OnErr result
             (AreLeft (state_of S.Store self.old) (state_of S.Store self.new)) }
         ensures honest { WasClean (state_of S.Store self.old) (state_of S.Store self.new) }
-        ensures lasts { Lasts (state_of S.Store self.old) (state_of S.Store self.new) }
+        ensures lasts { KeepsConnection (state_of S.Store self.old) (state_of S.Store self.new) }
         ensures version { TellsVersion
             (state_of S.Store self.old) (state_of S.Store self.new) result }
         ensures refuses { RefusesKnown
@@ -98,7 +98,7 @@ impl<S: Alter> Store<S> {
         ensures meta { ReadsMeta IsOfMeta
             (state_of S.Store self.old) (state_of S.Store self.new) result }
         ensures fault { IfErr result (λ e. e ≢ StoreFault.WrongVersion) }
-        ensures kept { Spares (state_of S.Store self.old) (state_of S.Store self.new) }
+        ensures kept { LeavesTables (state_of S.Store self.old) (state_of S.Store self.new) }
     {
         meta::version(&mut self.tables)
     }
@@ -108,7 +108,7 @@ impl<S: Alter> Store<S> {
     pub fn is_open(&mut self) -> Result<bool, StoreFault>
         ensures live { HasCleanDisk (state_of S.Store self.new)
             → IfOk result (λ live. live ≡ (state_of S.Store self.old).is_open) }
-        ensures kept { Spares (state_of S.Store self.old) (state_of S.Store self.new) }
+        ensures kept { LeavesTables (state_of S.Store self.old) (state_of S.Store self.new) }
         ensures fault { IfErr result (λ e. e ≡ StoreFault.Refused) }
     {
         meta::is_open(&mut self.tables)

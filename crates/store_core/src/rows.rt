@@ -4,11 +4,11 @@
 ghost use Rattle.std.specs.Prelude.{◌+◌, ◌<◌, ◌≡◌, ◌≢◌, ◌^◌, ◌∷◌, [], Err, IfErr, IfOk, IsSome};
 ghost use Rattle.std.specs.Prelude.{None, Ok, filter, slice_get};
 ghost use Rattle.std.specs.Borrow.{RestsIfErr, sem};
-ghost use Rattle.store_tables.specs.Calls.{OnlyRefuses, Spares};
+ghost use Rattle.store_tables.specs.Calls.{OnlyRefuses, LeavesTables};
 ghost use Rattle.store_tables.specs.Contents.Request.{has_number};
 ghost use Rattle.store_tables.specs.Readings.{MismatchesInNumbers};
 ghost use Rattle.store_tables.specs.declared.fault.StoreFault.{StoreFault};
-ghost use Rattle.store_tables.specs.Readings.{Blames, Reads};
+ghost use Rattle.store_tables.specs.Readings.{MismatchMeansBadRow, Reads};
 ghost use Rattle.store_core.specs.Ahead.{Begins, GivesNext, HasAhead, IsRefused};
 ghost use Rattle.store_core.specs.Ahead.{TakesNext, numbers_ahead, progress_after, rows_ahead};
 ghost use Rattle.store_core.specs.Ahead.{rows_filed, rows_of};
@@ -96,7 +96,7 @@ impl<S: Alter> Store<S> {
             (state_of S.Store self.old) (state_of S.Store self.new) result }
         ensures mismatch { MismatchesInNumbers
             (state_of S.Store self.old) (state_of S.Store self.new) result }
-        ensures kept { Spares (state_of S.Store self.old) (state_of S.Store self.new) }
+        ensures kept { LeavesTables (state_of S.Store self.old) (state_of S.Store self.new) }
     {
         let numbers = numbers_due_before(alloc, &mut self.tables, at)?;
         self.ahead = Some(Sequence::from(numbers));
@@ -139,8 +139,8 @@ impl<S: Alter> Store<S> {
             TakesNext (rows_ahead S.Store self.old at.old due desk) row
             (rows_ahead S.Store self.new at.new due desk))
             (state_of S.Store self.old) (state_of S.Store self.new) result }
-        ensures kept { Spares (state_of S.Store self.old) (state_of S.Store self.new) }
-        ensures blames { Blames (state_of S.Store self.old) (state_of S.Store self.new) result }
+        ensures kept { LeavesTables (state_of S.Store self.old) (state_of S.Store self.new) }
+        ensures blames { MismatchMeansBadRow (state_of S.Store self.old) (state_of S.Store self.new) result }
     {
         let Some(id) = self.number_ahead(*at) else {
             return Ok(None);
@@ -159,8 +159,8 @@ impl<S: Alter> Store<S> {
             TakesNext (rows_of S.Store self.old source.old due desk) row
             (rows_of S.Store self.new source.new due desk))
             (state_of S.Store self.old) (state_of S.Store self.new) result }
-        ensures kept { Spares (state_of S.Store self.old) (state_of S.Store self.new) }
-        ensures blames { Blames (state_of S.Store self.old) (state_of S.Store self.new) result }
+        ensures kept { LeavesTables (state_of S.Store self.old) (state_of S.Store self.new) }
+        ensures blames { MismatchMeansBadRow (state_of S.Store self.old) (state_of S.Store self.new) result }
     {
         match source {
             Source::ByNumber(at) => self.next_numbered(at),
@@ -176,8 +176,8 @@ impl<S: Alter> Store<S> {
             TakesNext (rows_filed self.old.filed due desk) row
             (rows_filed self.new.filed due desk))
             (state_of S.Store self.old) (state_of S.Store self.new) result }
-        ensures kept { Spares (state_of S.Store self.old) (state_of S.Store self.new) }
-        ensures blames { Blames (state_of S.Store self.old) (state_of S.Store self.new) result }
+        ensures kept { LeavesTables (state_of S.Store self.old) (state_of S.Store self.new) }
+        ensures blames { MismatchMeansBadRow (state_of S.Store self.old) (state_of S.Store self.new) result }
     {
         match &mut self.filed {
             None => Ok(None),
@@ -234,12 +234,12 @@ impl<'s, S: Alter> RequestRows<'s, S> {
         ensures over { self.old.progress ≡ Progress.Over → result ≡ Ok None }
         ensures spent { self.old.progress ≡ Progress.Spent → result ≡ Err StoreFault.Refused }
         ensures progress { self.new.progress ≡ progress_after result }
-        ensures kept { Spares
+        ensures kept { LeavesTables
             (state_of S.Store self.old.store.now) (state_of S.Store self.new.store.now) }
         ensures refuses { OnlyRefuses
             (state_of S.Store self.old.store.now) (state_of S.Store self.new.store.now) result }
         ensures fault { IfErr result (λ e. e ≢ StoreFault.WrongVersion) }
-        ensures blames { Blames
+        ensures blames { MismatchMeansBadRow
             (state_of S.Store self.old.store.now) (state_of S.Store self.new.store.now) result }
     {
         match self.progress {
@@ -256,9 +256,9 @@ impl<'s, S: Alter> RequestRows<'s, S> {
         ensures given { TellsDated (GivesNext S.Store self.old self.new)
             (state_of S.Store self.old.store.now) (state_of S.Store self.new.store.now) result }
         ensures progress { self.new.progress ≡ progress_after result }
-        ensures kept { Spares
+        ensures kept { LeavesTables
             (state_of S.Store self.old.store.now) (state_of S.Store self.new.store.now) }
-        ensures blames { Blames
+        ensures blames { MismatchMeansBadRow
             (state_of S.Store self.old.store.now) (state_of S.Store self.new.store.now) result }
     {
         match self.store.next_of(&mut self.source) {

@@ -2,8 +2,8 @@
 ghost use Rattle.std.specs.Prelude.{◌≡◌, ◌≢◌, IfErr, false};
 ghost use Rattle.desk_model.specs.Rights as rights;
 ghost use Rattle.store_tables.specs.declared.fault.StoreFault.{StoreFault};
-ghost use Rattle.store_tables.specs.Calls.{OnlyRefuses, Spares, Tells};
-ghost use Rattle.store_tables.specs.Readings.{Blames, OfDesk, Reads};
+ghost use Rattle.store_tables.specs.Calls.{OnlyRefuses, LeavesTables, Tells};
+ghost use Rattle.store_tables.specs.Readings.{MismatchMeansBadRow, OfDesk, Reads};
 ghost use Rattle.store_core.specs.Seen.{state_of};
 ghost use Rattle.store_tables.specs.Seen.{seen};
 
@@ -30,11 +30,11 @@ impl<S: Alter> Store<S> {
         ensures told { Tells (λ desk shown. shown
             ≡ rights.is_shown settings.now person.now desk id)
             (state_of S.Store self.old) (state_of S.Store self.new) result }
-        ensures kept { Spares (state_of S.Store self.old) (state_of S.Store self.new) }
+        ensures kept { LeavesTables (state_of S.Store self.old) (state_of S.Store self.new) }
         ensures refuses { OnlyRefuses
             (state_of S.Store self.old) (state_of S.Store self.new) result }
         ensures fault { IfErr result (λ e. e ≢ StoreFault.WrongVersion) }
-        ensures blames { Blames (state_of S.Store self.old) (state_of S.Store self.new) result }
+        ensures blames { MismatchMeansBadRow (state_of S.Store self.old) (state_of S.Store self.new) result }
     {
         is_shown_to(alloc, &mut self.tables, settings, person, id)
     }

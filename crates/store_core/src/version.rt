@@ -2,7 +2,7 @@
 ghost use Rattle.std.specs.Prelude.{◌≡◌, ◌≢◌, IfErr, IfOk, None, OnOk, Some, pos};
 ghost use Rattle.sqlite.specs.Held.{state};
 ghost use Rattle.sqlite.specs.State.{HasCleanDisk};
-ghost use Rattle.store_tables.specs.Calls.{Inside, Looks};
+ghost use Rattle.store_tables.specs.Calls.{AnswersInTransaction, QueryInTransaction};
 ghost use Rattle.store_tables.specs.Contents.{Contents};
 ghost use Rattle.store_tables.specs.Making.{BlamesMeta, IsKnown, LacksVersion, ShowsVersionOf};
 ghost use Rattle.store_tables.specs.Making.{WrongInside};
@@ -26,9 +26,9 @@ fn read_version<S: Alter>(tx: &mut Transaction<'_, S>) -> Result<Option<i64>, St
     ensures refused { (c : Contents) → LacksVersion c (state S.Store tx.old.conn.now) →
         HasCleanDisk (state S.Store tx.new.conn.now) →
         IfErr result (λ e. e ≡ StoreFault.Refused) }
-    ensures one { Inside (λ c v. v ≡ Some (pos c.version))
+    ensures one { AnswersInTransaction (λ c v. v ≡ Some (pos c.version))
         (state S.Store tx.old.conn.now) (state S.Store tx.new.conn.now) result }
-    ensures looks { Looks
+    ensures looks { QueryInTransaction
         (state S.Store tx.old.conn.now) (state S.Store tx.new.conn.now) result }
     ensures refuses { RefusesOn
         (state S.Store tx.old.conn.now) (state S.Store tx.new.conn.now) result }
@@ -57,7 +57,7 @@ pub(crate) fn bring_up<S: Alter>(
     ensures brings { BringsUp
         (state S.Store tx.old.conn.now) (state S.Store tx.new.conn.now) result }
     ensures on { RunsOn (state S.Store tx.old.conn.now) (state S.Store tx.new.conn.now) result }
-    ensures known { Inside (λ c done. IsKnown c.version)
+    ensures known { AnswersInTransaction (λ c done. IsKnown c.version)
         (state S.Store tx.old.conn.now) (state S.Store tx.new.conn.now) result }
     ensures wrong { WrongInside
         (state S.Store tx.old.conn.now) (state S.Store tx.new.conn.now) result }

@@ -27,7 +27,7 @@ use Rattle.sqlite_resolve.specs.declared.error.CompileError.TheVariants.{Unsuppo
 use Rattle.sqlite_schema.specs.Names.{index_named, table_named, view_named}
 use Rattle.sqlite_syntax.specs.declared.statement.Parsed.{Parsed}
 use Rattle.store_tables.proofs.TextLemmas.{GivesNone, IsCommand, understood_as}
-use Rattle.store_tables.specs.Stands.{Ran}
+use Rattle.store_tables.specs.Stands.{HasRun}
 use Rattle.store_tables.proofs.WriteLemmas.{same_value, went}
 
 -- a table or a view has the name
@@ -166,5 +166,5 @@ puts_by {sql} {table} it old new count ran =
     ]
 
 pub puts : {sql : List ℕ} {table : Table} → Defines sql table → {old new : State} {count : ℕ}
-    → Ran sql [] old new count → Puts table old.now new.now
+    → HasRun sql [] old new count → Puts table old.now new.now
 puts it {old} {new} {count} ran = puts_by it old new count ran.runs

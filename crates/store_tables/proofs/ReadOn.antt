@@ -3,9 +3,9 @@ use Rattle.std.proofs.Common.{rules, ◌≡◌, ◌⊎◌, Err, IfErr, IfOk, inl
 use Rattle.std.proofs.Common.{subst}
 use Rattle.sqlite.specs.State.{State, HasCleanDisk}
 use Rattle.desk_model.specs.Desk.{Desk}
-use Rattle.store_tables.specs.Calls.{Answers, OnlyRefuses, Spares, Tells, WasClean}
+use Rattle.store_tables.specs.Calls.{Answers, OnlyRefuses, LeavesTables, Tells, WasClean}
 use Rattle.store_tables.specs.Contents.{Contents, contents_of, HasBadRows}
-use Rattle.store_tables.specs.Readings.{Blames, OfDesk, Reads}
+use Rattle.store_tables.specs.Readings.{MismatchMeansBadRow, OfDesk, Reads}
 use Rattle.store_tables.specs.declared.fault.StoreFault.{StoreFault}
 use Rattle.store_tables.specs.declared.fault.StoreFault.TheVariants.{Refused}
 use Rattle.store_tables.proofs.ReadingLemmas.{if_err, if_ok}
@@ -13,7 +13,7 @@ use Rattle.store_tables.proofs.Contents.{none_bad}
 use Rattle.store_tables.proofs.RowLemmas.{only_refused}
 use Rattle.store_tables.proofs.Spared.{joined, stands, there_still}
 
-bad_before : {a b : State} → Spares a b → HasCleanDisk b
+bad_before : {a b : State} → LeavesTables a b → HasCleanDisk b
     → IsTrue b.is_open × (HasBadRows b.now ⊎ HasBadRows b.committed)
     → IsTrue a.is_open × (HasBadRows a.now ⊎ HasBadRows a.committed)
 bad_before {a} kept clean bad =
@@ -30,12 +30,12 @@ bad_before {a} kept clean bad =
 
 -- a fault is one of whatever was asked, and so it is answered
 pub blames_failed : {X Y : Type 0} {a b : State} {e : StoreFault} {r : Result Y StoreFault}
-    → Blames {X = X} a b (Err e) → r ≡ Err e → Blames a b r
+    → MismatchMeansBadRow {X = X} a b (Err e) → r ≡ Err e → MismatchMeansBadRow a b r
 blames_failed it is = rw is (assumption)
 
 -- what a later reading blames was bad before
-pub blames_after : {X : Type 0} {a b c : State} {r : Result X StoreFault} → Spares a b
-    → WasClean b c → Blames b c r → Blames a c r
+pub blames_after : {X : Type 0} {a b c : State} {r : Result X StoreFault} → LeavesTables a b
+    → WasClean b c → MismatchMeansBadRow b c r → MismatchMeansBadRow a c r
 blames_after {r = r} first clean second = record {
   known = second.known;
   mismatch = if_err r (λ e blame wrong there now. bad_before first (clean now)
@@ -52,7 +52,7 @@ failed_at it is = rw is (failed it)
 
 -- what is refused blames no row
 pub blames_refused : {X : Type 0} {a b : State} (r : Result X StoreFault)
-    → IfErr r (λ e. e ≡ Refused) → Blames a b r
+    → IfErr r (λ e. e ≡ Refused) → MismatchMeansBadRow a b r
 blames_refused r fault = record {
   known = if_err r (λ e is wrong. cc) fault;
   mismatch = if_err r (λ e is wrong there clean. absurd (cc)) fault;
@@ -73,7 +73,7 @@ pub refusing : {X Y : Type 0} {P : Contents → X → Type 0} {Q : Contents → 
 refusing it is = ending is (λ d p. tt) it
 
 -- whatever was asked, it is refused, and the tables are spared
-pub refusing_after : {Y : Type 0} {Q : Contents → Y → Type 0} {a b : State} → Spares a b
+pub refusing_after : {Y : Type 0} {Q : Contents → Y → Type 0} {a b : State} → LeavesTables a b
     → Reads Q a b (Err Refused)
 refusing_after {Y} {a = a} {b} kept =
     let blames = blames_refused {X = Y} {a = a} {b = b} (Err Refused) refl in search rules
@@ -103,7 +103,7 @@ giving {Q = Q} {a} {b} {y = y} so it =
 
 -- so the only fault is that the store or memory refused it
 pub blames_none : {X : Type 0} {old new : State} {r : Result X StoreFault} → WasClean old new
-    → Blames old new r → OnlyRefuses old new r
+    → MismatchMeansBadRow old new r → OnlyRefuses old new r
 blames_none {old = old} {r = r} was it c stand clean = only_refused r it.known (λ blame.
     let bad = blame (λ d o. let t = stand d o in (t.0.schema, t.1.schema)) clean in
     let t = stand (was clean) bad.0 in

@@ -12,13 +12,13 @@ use Rattle.sqlite.specs.State.{State, HasCleanDisk, Shown}
 use Rattle.sqlite.specs.Term.{Term}
 use Rattle.sqlite_rules.specs.Lists.{Has}
 use Rattle.sqlite_rules.proofs.ProbeLemmas.{has_mapped, mapped_has}
-use Rattle.store_tables.specs.Calls.{FailsIn, Inside, Leaves, OnlyRefuses, ReadsRows, TestsAll}
+use Rattle.store_tables.specs.Calls.{FailsIn, AnswersInTransaction, Leaves, OnlyRefuses, ReadsRows, ValidatesTable}
 use Rattle.store_tables.specs.Calls.{WasClean}
 use Rattle.store_tables.specs.Contents.{Contents, HasBadRow, HasBadRows, Tables}
 use Rattle.store_tables.specs.Kept.{Holds}
 use Rattle.store_tables.specs.Picked.{AreOrdered, AreParts, Lists, Picks, passes, shows, Shows}
 use Rattle.store_tables.specs.Query.{reads}
-use Rattle.store_tables.specs.Readings.{Blames, Reads}
+use Rattle.store_tables.specs.Readings.{MismatchMeansBadRow, Reads}
 use Rattle.store_tables.specs.Stands.{HasTables, WhereOpen}
 use Rattle.store_tables.specs.declared.fault.StoreFault.{StoreFault}
 use Rattle.store_tables.specs.declared.fault.StoreFault.TheVariants.{Mismatch, Refused}
@@ -146,7 +146,7 @@ refuses t old new clean r fails c stand now = if_err r (λ e fail. refused e fai
 
 -- a mismatch that comes of a bad row of one table comes of one
 pub blames_of : {K V X : Type 0} (t : TableOf K V) (old new : State) (r : Result X StoreFault)
-    → FailsIn t.tree t.terms t.IsValue old new r → Blames old new r
+    → FailsIn t.tree t.terms t.IsValue old new r → MismatchMeansBadRow old new r
 blames_of t old new r fails = record {
   known = if_err r (λ e fail. fail.0) fails;
   mismatch = if_err r (λ e fail wrong there clean.
@@ -222,7 +222,7 @@ answered t {old} {new} {r} it = record {
 -- or in one that goes on
 pub inside : {X : Type 0} {P : Contents → X → Type 0} {tree : ℕ} {terms : List Term}
     {IsValue : Row → Type 0} {old new : State} {r : Result X StoreFault}
-    → Found P tree terms IsValue old new r → Inside P old new r
+    → Found P tree terms IsValue old new r → AnswersInTransaction P old new r
 inside it c holds = it.told c (λ d o. (holds d o).0)
 
 -- a query on a table, by what its text means
@@ -348,7 +348,7 @@ abbrev pub Tested : {X : Type 0} → (Contents → X → Type 0) → ℕ → Lis
     → State → State → Result X StoreFault → Type 0
 Tested P tree terms IsValue old new r = record {
   read : Reads P old new r;
-  tested : TestsAll tree terms IsValue old new r;
+  tested : ValidatesTable tree terms IsValue old new r;
 }
 
 pub tested : {K V X Y Same : Type 0} {P : Contents → X → Type 0} (t : TableOf K V)

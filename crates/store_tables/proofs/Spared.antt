@@ -6,18 +6,18 @@ use Rattle.sqlite.specs.Order.{Row}
 use Rattle.sqlite.specs.State.{State, HasCleanDisk, IsTooLate, Shown, FailsToQuery, Survives}
 use Rattle.sqlite.specs.Tree.{Trees}
 use Rattle.sqlite.specs.declared.error.Error.{Error}
-use Rattle.store_tables.specs.Calls.{AreLeft, AreThere, Lasts, Leaves, Looks, ReadsAlone, Spares}
+use Rattle.store_tables.specs.Calls.{AreLeft, AreThere, KeepsConnection, Leaves, QueryInTransaction, ReadsAlone, LeavesTables}
 use Rattle.store_tables.specs.Calls.{WasClean}
 use Rattle.store_tables.specs.declared.fault.StoreFault.{StoreFault}
 use Rattle.store_tables.specs.declared.fault.StoreFault.TheVariants.{Refused}
 use Rattle.desk_model.specs.Desk.{Desk}
 use Rattle.store_tables.specs.Contents.{Contents, contents_of, Tables, desk_schema}
-use Rattle.store_tables.specs.Stands.{GoesBack, Stand, StandsFor}
+use Rattle.store_tables.specs.Stands.{RolledBack, HoldCommitted, Represents}
 use Rattle.store_tables.proofs.Lasting.{by, on, same}
 use Rattle.store_tables.proofs.StandLemmas.{failed_left, shown_alone, shown_left, was_clean}
 
 -- what does nothing spares all
-pub unread : (s : State) → Spares s s
+pub unread : (s : State) → LeavesTables s s
 unread s = record {
   clean = λ clean. clean;
   lasts = same s;
@@ -39,12 +39,12 @@ left_both P a b before left so clean live =
     )
 
 -- tables that are there are there still
-pub there_still : {a b : State} → Spares a b → AreThere a → AreThere b
+pub there_still : {a b : State} → LeavesTables a b → AreThere a → AreThere b
 there_still {a} {b} kept there =
     left_both (λ (d : Database). d.schema ≡ desk_schema) a b kept.clean kept.left there
 
 -- what the second call spares of what the first one left
-pub joined : {a b c : State} → Spares a b → Spares b c → Spares a c
+pub joined : {a b c : State} → LeavesTables a b → LeavesTables b c → LeavesTables a c
 joined first second = record {
   clean = λ clean. first.clean (second.clean clean);
   lasts = on second.clean first.lasts second.lasts;
@@ -58,28 +58,28 @@ joined first second = record {
 }
 
 -- what stands on tables that are spared stands on
-pub stands : {old new : State} → Spares old new → (c : Contents) → Stand c old → Stand c new
+pub stands : {old new : State} → LeavesTables old new → (c : Contents) → HoldCommitted c old → HoldCommitted c new
 stands {old} {new} kept c = left_both (Tables c) old new kept.clean kept.left
 
 -- what is as the last commit left it is left
-pub back_left : (old new : State) → GoesBack old new → AreLeft old new
+pub back_left : (old new : State) → RolledBack old new → AreLeft old new
 back_left old new back now live = let it = back now live in (it.1, it.3, inr it.2)
 
-pub back_spares : {old new : State} → WasClean old new → Lasts old new → GoesBack old new
-    → Spares old new
+pub back_spares : {old new : State} → WasClean old new → KeepsConnection old new → RolledBack old new
+    → LeavesTables old new
 back_spares {old} {new} clean lasts back =
     record { clean = clean; lasts = lasts; left = back_left old new back }
 
 -- what stands for a desk stands for it
-pub stands_for : {old new : State} → Spares old new → (desk : Desk) → StandsFor desk old
-    → StandsFor desk new
+pub stands_for : {old new : State} → LeavesTables old new → (desk : Desk) → Represents desk old
+    → Represents desk new
 stands_for kept desk stand = (stand.0, stands kept (contents_of stand.0 desk) stand.1)
 
 -- what a query that reads alone leaves, whether it showed rows or failed
 module _ (sql : List ℕ) (params : Row) (old new : State) (alone : ReadsAlone sql)
     {P : Trees → Type 0} (lived : Survives old new P)
   where
-    spared : AreLeft old new → Spares old new
+    spared : AreLeft old new → LeavesTables old new
     spared left = record { clean = was_clean old new P lived; lasts = by lived; left = left }
 
     pub shown_leaves : {X : Type 0} (x : X) (rows : List Row)
@@ -99,7 +99,7 @@ module _ (sql : List ℕ) (params : Row) (old new : State) (alone : ReadsAlone s
 
 -- so in a transaction the tables hold what they held, and the last commit stays
 pub looks_of : {X : Type 0} {old new : State} (r : Result X StoreFault) → Leaves old new r
-    → Looks old new r
+    → QueryInTransaction old new r
 looks_of {old = old} {new} (Ok x) it = record {
   makes = λ c holds now live.
       let same = (it.same now).0 in

@@ -17,8 +17,8 @@ use Rattle.std.proofs.lemmas.List.{take_more}
 use Rattle.std.specs.Prelude.{fold}
 use Rattle.store_tables.specs.Calls.{AreLeft, ReadsAlone}
 use Rattle.store_tables.specs.Contents.{Contents, Tables}
-use Rattle.store_tables.specs.Stands.{HasTables, Stand, GoesOn, HoldsNow, GoesBack}
-use Rattle.store_tables.specs.Stands.{KeepsBase, FirstStand, FirstTables, WhereOpen}
+use Rattle.store_tables.specs.Stands.{HasTables, HoldCommitted, InTransaction, HoldsNow, RolledBack}
+use Rattle.store_tables.specs.Stands.{KeepsCommitted, FirstHoldCommitted, FirstTables, WhereOpen}
 
 -- what was open before, by what a query showed
 shown_was_open : (old new : State) (sql : List ℕ) (c : Compiled) (full : Row) (rows : List Row)
@@ -40,7 +40,7 @@ tables_shown d sql params old new rows clean holding c h = holding (clean c)
     (shown_was_open old new sql h.0 (timed params h.0.formats h.1.now) rows h.0.returning h.2)
 
 pub shown_tables : (d : Contents) (sql : List ℕ) (params : Row) (old new : State) (rows : List Row)
-    → (HasCleanDisk new → HasCleanDisk old) → Stand d old → HasCleanDisk new
+    → (HasCleanDisk new → HasCleanDisk old) → HoldCommitted d old → HasCleanDisk new
     → Shown sql params old new rows → Tables d old.now
 shown_tables d sql params old new rows clean stand =
     tables_shown d sql params old new rows clean (λ c o. (stand c o).0)
@@ -53,7 +53,7 @@ module _ {S : Type 0} (g : Ghosts S) (sql : List ℕ) (params : Row) (old new : 
       → (HasCleanDisk (state g new) → HasCleanDisk (state g old))
       → (HasCleanDisk (state g new) → IsTrue old.in_transaction
       → ExecutesInside 0 sql params (state g old) (state g new) r)
-      → KeepsBase (state g old) (state g new)
+      → KeepsCommitted (state g old) (state g new)
   inside_keeps false r is same clean inside = rw (same (sym is)) (λ c o. (c, o, refl))
   inside_keeps true (Ok count) is same clean inside = λ c o. let it = inside c (sym is) in
       (clean c, it.1.was_open, it.1.committed_is)
@@ -64,7 +64,7 @@ module _ {S : Type 0} (g : Ghosts S) (sql : List ℕ) (params : Row) (old new : 
   ]
 
 -- what goes back later goes back to what was before, while the last commit stayed
-pub back_on : (a b end : State) → KeepsBase a b → GoesBack b end → GoesBack a end
+pub back_on : (a b end : State) → KeepsCommitted a b → RolledBack b end → RolledBack a end
 back_on a b end keeps back c o =
     let it = back c o in
     let base = keeps it.0 it.1 in
@@ -72,7 +72,7 @@ back_on a b end keeps back c o =
 
 -- what the last commit left is so again
 pub back_both : (P : Database → Type 0) (old new : State)
-    → (HasCleanDisk old → IsTrue old.is_open → P old.committed) → GoesBack old new
+    → (HasCleanDisk old → IsTrue old.is_open → P old.committed) → RolledBack old new
     → HasCleanDisk new → IsTrue new.is_open → P new.now × P new.committed
 back_both P old new rests back c o =
     let it = back c o in
@@ -80,29 +80,29 @@ back_both P old new rests back c o =
     (subst P (sym it.2) was, subst P (sym it.3) was)
 
 pub back_stands : (d : Contents) (old new : State) → WhereOpen (λ s. Tables d s.committed) old
-    → GoesBack old new → Stand d new
+    → RolledBack old new → HoldCommitted d new
 back_stands d = back_both (Tables d)
 
 -- six tables too
 pub back_first : (d : Contents) (old new : State)
-    → WhereOpen (λ s. FirstTables d s.committed) old → GoesBack old new → FirstStand d new
+    → WhereOpen (λ s. FirstTables d s.committed) old → RolledBack old new → FirstHoldCommitted d new
 back_first d = back_both (FirstTables d)
 
 -- a transaction begins, whatever rows the tables have
 pub begins_on : {S : Type 0} (g : Ghosts S) (old tx : Held S)
-    → tx ≡ record old { in_transaction = true } → GoesOn (state g tx)
+    → tx ≡ record old { in_transaction = true } → InTransaction (state g tx)
 begins_on g old tx is = rw is (λ c o. refl)
 
 -- from its begin on, up to an end that goes back
 pub begun_back : {S X E : Type 0} (g : Ghosts S) (old tx : Held S) (mid end : State)
-    (r : Result X E) → tx ≡ record old { in_transaction = true } → KeepsBase (state g tx) mid
-    → OnErr r (GoesBack mid end) → OnErr r (GoesBack (state g old) end)
+    (r : Result X E) → tx ≡ record old { in_transaction = true } → KeepsCommitted (state g tx) mid
+    → OnErr r (RolledBack mid end) → OnErr r (RolledBack (state g old) end)
 begun_back g old tx mid end (Ok x) is keeps back = tt
 begun_back g old tx mid end (Err e) is keeps back =
     rw is at (back_on (state g tx) mid end keeps back)
 
 pub begins : {S : Type 0} (g : Ghosts S) (old tx : Held S) (d : Contents)
-    → tx ≡ record old { in_transaction = true } → Stand d (state g old) → HoldsNow d (state g tx)
+    → tx ≡ record old { in_transaction = true } → HoldCommitted d (state g old) → HoldsNow d (state g tx)
 begins g old tx d is stand = rw is (λ c o. ((stand c o).0, refl))
 
 fold_last : {A X : Type 0} (f : A → X → A) (a : A) (xs : List X) (x : X)

@@ -6,9 +6,9 @@ use Rattle.std.proofs.lemmas.List.{take_all}
 use Rattle.sqlite.specs.Order.{Row}
 use Rattle.sqlite.specs.State.{State, Executes}
 use Rattle.sqlite.specs.Change.{KeepsRows}
-use Rattle.store_tables.specs.Calls.{Does, Looks, Makes, Runs, WasClean}
+use Rattle.store_tables.specs.Calls.{StatementChanges, QueryInTransaction, Makes, StatementRuns, WasClean}
 use Rattle.store_tables.specs.Contents.{Contents, Tables, desk_schema}
-use Rattle.store_tables.specs.Stands.{GoesOn, HasTables, KeepsBase, OnlyStaysChange, Ran, RanOnAny}
+use Rattle.store_tables.specs.Stands.{InTransaction, HasTables, KeepsCommitted, OnlyStaysChange, HasRun, RanOnAny}
 use Rattle.store_tables.specs.Contents.{first_schema}
 use Rattle.store_tables.specs.declared.fault.StoreFault.{StoreFault}
 use Rattle.store_tables.proofs.Lasting.{on}
@@ -16,34 +16,34 @@ use Rattle.store_tables.proofs.StandLemmas.{fold_more}
 
 -- a statement that ran, whatever is known of how
 does_ran : {X : Type 0} {P : X → Type 0} {old new : State} {change : Contents → Contents}
-    (r : Result X StoreFault) → Runs P old new r
+    (r : Result X StoreFault) → StatementRuns P old new r
     → ((x : X) → P x → IsTrue old.is_open × (new.in_transaction ≡ true)
-    × ((now : Contents) → Tables now old.now → Tables (change now) new.now)) → Does change old new r
+    × ((now : Contents) → Tables now old.now → Tables (change now) new.now)) → StatementChanges change old new r
 does_ran {old = old} {new} {change} (Ok x) runs so =
     let makes : Makes change old new (Ok x) = λ now holds c o. let it = so x (runs.ran c) in
     (it.2 now (holds (runs.clean c) it.0).0, it.1) in
-    let goes_on : GoesOn old → GoesOn new = λ goes c o. (so x (runs.ran c)).1 in assumption
+    let goes_on : InTransaction old → InTransaction new = λ goes c o. (so x (runs.ran c)).1 in assumption
 does_ran (Err e) runs so = search rules
 
 -- a statement that changed one row
 pub does_one : {X : Type 0} {r : Result X StoreFault} {sql : List ℕ} {params : Row}
     {old new : State} {change : Contents → Contents}
-    → Runs (λ done. Ran sql params old new 1) old new r
+    → StatementRuns (λ done. HasRun sql params old new 1) old new r
     → ((now : Contents) → Tables now old.now → Executes sql params old new (Ok 1)
-    → Tables (change now) new.now) → Does change old new r
+    → Tables (change now) new.now) → StatementChanges change old new r
 does_one {r = r} runs makes = does_ran r runs
     (λ done it. (it.shown.was_open, it.shown.mode, λ now t. makes now t it.runs))
 
 -- a statement that changed one row or none
 pub does_any : {X : Type 0} {r : Result X StoreFault} {sql : List ℕ} {params : Row}
     {old new : State} {change : Contents → Contents}
-    → Runs (λ done. RanOnAny sql params old new) old new r
+    → StatementRuns (λ done. RanOnAny sql params old new) old new r
     → ((now : Contents) (count : ℕ) → count < 2 → Tables now old.now
-    → Executes sql params old new (Ok count) → Tables (change now) new.now) → Does change old new r
+    → Executes sql params old new (Ok count) → Tables (change now) new.now) → StatementChanges change old new r
 does_any {r = r} runs makes = does_ran r runs (λ done it.
     (it.2.shown.was_open, it.2.shown.mode, λ now t. makes now it.0 it.1 t it.2.runs))
 
-pub kept_on : (a b c : State) → KeepsBase a b → KeepsBase b c → KeepsBase a c
+pub kept_on : (a b c : State) → KeepsCommitted a b → KeepsCommitted b c → KeepsCommitted a c
 kept_on a b c first second clean live =
     let at = second clean live in
     let was = first at.0 at.1 in
@@ -51,12 +51,12 @@ kept_on a b c first second clean live =
 
 -- what it told is not asked for
 pub runs_done : {X Y : Type 0} {P : X → Type 0} {a b : State} {x : X} {y : Y}
-    → Runs P a b (Ok x) → Runs (λ (z : Y). ⊤) a b (Ok y)
+    → StatementRuns P a b (Ok x) → StatementRuns (λ (z : Y). ⊤) a b (Ok y)
 runs_done runs = search rules
 
 -- what a statement leaves of tables with any rows
 pub ran_beside : {X : Type 0} (r : Result X StoreFault) {sql : List ℕ} {params : Row}
-    {old new : State} → Runs (λ done. Ran sql params old new 1) old new r
+    {old new : State} → StatementRuns (λ done. HasRun sql params old new 1) old new r
     → (old.now.schema ≡ desk_schema → Executes sql params old new (Ok 1)
     → (new.now.schema ≡ desk_schema) × KeepsRows first_schema.tables old.now.trees new.now.trees)
     → OnOk r (OnlyStaysChange old new)
@@ -71,7 +71,7 @@ ran_beside (Err e) runs keeps = tt
 pub beside_none : (s : State) → OnlyStaysChange s s
 beside_none s has clean live = let there = has clean live in assumption
 
-pub looks_beside : {X : Type 0} {x : X} {a b : State} → Looks a b (Ok x) → OnlyStaysChange a b
+pub looks_beside : {X : Type 0} {x : X} {a b : State} → QueryInTransaction a b (Ok x) → OnlyStaysChange a b
 looks_beside {a = a} looks has clean live =
     let it = looks.same clean in rw it.1 (beside_none a has (looks.clean clean) it.0)
 
@@ -87,8 +87,8 @@ beside_on a b c first clean_before second has clean live =
 
 -- one after the other
 pub does_both : {X Y : Type 0} {first second : Contents → Contents} {a b c : State} {x : X}
-    {r : Result Y StoreFault} → Does first a b (Ok x) → Does second b c r
-    → Does (λ (d : Contents). second (first d)) a c r
+    {r : Result Y StoreFault} → StatementChanges first a b (Ok x) → StatementChanges second b c r
+    → StatementChanges (λ (d : Contents). second (first d)) a c r
 does_both {first = first} {a = a} {b = b} {c = c} did next = record {
   makes = λ now holds. next.makes (first now) (did.makes now holds);
   keeps = kept_on a b c did.keeps next.keeps;
@@ -100,20 +100,20 @@ does_both {first = first} {a = a} {b = b} {c = c} did next = record {
 
 -- so many of a list are written
 abbrev pub Wrote : {X : Type 0} → (Contents → X → Contents) → List X → ℕ → State → State → Type 0
-Wrote f xs i a b = Does {X = ⊤} (λ c. fold f c (take i xs)) a b (Ok tt)
+Wrote f xs i a b = StatementChanges {X = ⊤} (λ c. fold f c (take i xs)) a b (Ok tt)
 
 module _ {X Y : Type 0} (f : Contents → X → Contents) (xs : List X) {done : Y} {i : ℕ}
     {a b : State}
   where
     -- one more of a list is written
     pub does_more : {c : State} {x : X} → i < length xs → x ≡ get_or xs i x
-        → Does (λ d. fold f d (take i xs)) a b (Ok done) → Does (λ d. f d x) b c (Ok done)
-        → Does (λ d. fold f d (take (i + 1) xs)) a c (Ok done)
-    does_more {c} {x} low is did next = subst (λ (change : Contents → Contents). Does change a c (Ok
+        → StatementChanges (λ d. fold f d (take i xs)) a b (Ok done) → StatementChanges (λ d. f d x) b c (Ok done)
+        → StatementChanges (λ d. fold f d (take (i + 1) xs)) a c (Ok done)
+    does_more {c} {x} low is did next = subst (λ (change : Contents → Contents). StatementChanges change a c (Ok
         done)) (λ t d. sym (fold_more f d xs i x low is) t) (does_both did next)
 
     -- all of it is
-    pub does_all : length xs ≤ i → Does (λ d. fold f d (take i xs)) a b (Ok done)
-        → Does (λ d. fold f d xs) a b (Ok done)
-    does_all high = subst (λ (change : Contents → Contents). Does change a b (Ok done))
+    pub does_all : length xs ≤ i → StatementChanges (λ d. fold f d (take i xs)) a b (Ok done)
+        → StatementChanges (λ d. fold f d xs) a b (Ok done)
+    does_all high = subst (λ (change : Contents → Contents). StatementChanges change a b (Ok done))
         (λ t d. ap (fold f d) (take_all i xs high) t)

@@ -31,7 +31,7 @@ use Rattle.sqlite.specs.Table.{Table}
 use Rattle.std.proofs.Common.{◌≢◌, ◌<◌, ◌^◌, false, inl, inr}
 use Rattle.store_tables.specs.Picked.{passes, shows}
 use Rattle.store_tables.specs.Calls.{WasClean}
-use Rattle.store_tables.specs.Stands.{HasFront, HasTables, HoldsNow, Ran}
+use Rattle.store_tables.specs.Stands.{HasFront, HasTables, HoldsNow, HasRun}
 use Rattle.store_tables.specs.Making.{AreOfMeta, IsOfMeta, LacksVersion, ReadsMeta, numbered}
 use Rattle.store_tables.specs.Making.{ReadsVersion, ShowsVersion, ShowsVersionOf}
 use Rattle.std.proofs.Common.{None, Option, Some, length, option_to_list, ℤ}
@@ -93,7 +93,7 @@ adds_version c old new count none t h =
     ) t
 
 pub fills : (c : Contents) (old new : State) (count : ℕ) → (HasCleanDisk new
-    → Ran add_version_text [] old new count) → (HasCleanDisk new → HasCleanDisk old)
+    → HasRun add_version_text [] old new count) → (HasCleanDisk new → HasCleanDisk old)
     → LacksVersion c old → HoldsNow c new
 fills c old new count ran clean lacks now o =
     let it = ran now in let before = lacks (clean now) it.shown.was_open in

@@ -16,7 +16,7 @@ use Rattle.sqlite_rules.specs.Lists.{Has}
 use Rattle.desk_model.specs.Desk.{Desk}
 use Rattle.desk_model.specs.IsDesk.{IsDesk}
 use Rattle.store_tables.specs.Contents.{Contents, desk_schema, HasBadRow}
-use Rattle.store_tables.specs.Stands.{GoesOn, HasTables, HoldsNow, KeepsBase, Stand, StandsFor}
+use Rattle.store_tables.specs.Stands.{InTransaction, HasTables, HoldsNow, KeepsCommitted, HoldCommitted, Represents}
 use Rattle.store_tables.specs.declared.fault.StoreFault.{StoreFault}
 use Rattle.store_tables.specs.declared.fault.StoreFault.TheVariants.{Mismatch, Refused}
 use Rattle.store_tables.specs.declared.fault.StoreFault.TheVariants.{WrongVersion}
@@ -29,7 +29,7 @@ AreThere s =
 
 -- The connection lasts: no fault of the disk is forgotten, only one shuts what was open, and the
 -- limit on steps is kept.
-pub record Lasts (old new : State) : Type 0 where
+pub record KeepsConnection (old new : State) : Type 0 where
   pub counts : old.faults ≤ new.faults
   pub limit : new.step_limit ≡ old.step_limit
   pub closes : HasCleanDisk new → IsTrue old.is_open
@@ -43,9 +43,9 @@ AreLeft old new =
     × ((new.now ≡ old.now) ⊎ (new.now ≡ old.committed))
 
 -- So are all tables left, whatever there are. The connection lasts.
-pub record Spares (old new : State) : Type 0 where
+pub record LeavesTables (old new : State) : Type 0 where
   pub clean : HasCleanDisk new → HasCleanDisk old
-  pub lasts : Lasts old new
+  pub lasts : KeepsConnection old new
   pub left : AreLeft old new
 
 -- what is answered over a connection that is shut
@@ -55,7 +55,7 @@ shut = SqliteFailure Closed
 -- What a query leaves, whatever tables there are: all are spared, and where it isn't refused nothing
 -- has changed.
 pub record Leaves {X : Type 0} (old new : State) (result : Result X StoreFault) : Type 0 where
-  pub spares : Spares old new
+  pub spares : LeavesTables old new
   pub same : HasCleanDisk new → IfOk result (λ x. IsUnchanged old new)
 
 -- whatever tables there are, the text is no statement that gives back rows of what it writes
@@ -70,12 +70,12 @@ WasClean old new = HasCleanDisk new → HasCleanDisk old
 -- what is answered is so of whatever the tables hold
 abbrev pub Answers : {X : Type 0} → (Contents → X → Type 0) → State → State → Result X StoreFault
     → Type 0
-Answers P old new result = (c : Contents) → Stand c old → HasCleanDisk new → IfOk result (P c)
+Answers P old new result = (c : Contents) → HoldCommitted c old → HasCleanDisk new → IfOk result (P c)
 
 -- what is answered is so of the desk that the tables stand for
 abbrev pub Tells : {X E : Type 0} → (Desk → X → Type 0) → State → State → Result X E → Type 0
 Tells P old new result =
-    (desk : Desk) → IsDesk desk → StandsFor desk old → HasCleanDisk new → IfOk result (P desk)
+    (desk : Desk) → IsDesk desk → Represents desk old → HasCleanDisk new → IfOk result (P desk)
 
 -- no fault is of the version, and a mismatch comes only of a bad row in an open store
 abbrev pub FailsIn : {X : Type 0} → ℕ → List Term → (Row → Type 0) → State → State
@@ -86,7 +86,7 @@ FailsIn tree terms IsValue old new result =
 
 -- What a reading of a whole table tests. Where it goes well, no row of the table is bad and nothing
 -- has changed.
-pub record TestsAll {X : Type 0} (tree : ℕ) (terms : List Term) (IsValue : Row → Type 0)
+pub record ValidatesTable {X : Type 0} (tree : ℕ) (terms : List Term) (IsValue : Row → Type 0)
     (old new : State) (result : Result X StoreFault) : Type 0 where
   pub fails : FailsIn tree terms IsValue old new result
   pub good : HasTables old → HasCleanDisk new
@@ -109,7 +109,7 @@ pub record ReadsRows {X V : Type 0} (Reads : Row → V → Type 0) (IsValue : Ro
 -- where the tables hold values, the fault is that the store or memory refused it
 abbrev pub OnlyRefuses : {X : Type 0} → State → State → Result X StoreFault → Type 0
 OnlyRefuses old new result =
-    (c : Contents) → Stand c old → HasCleanDisk new → IfErr result (λ e. e ≡ Refused)
+    (c : Contents) → HoldCommitted c old → HasCleanDisk new → IfErr result (λ e. e ≡ Refused)
 
 -- ---- in a transaction
 
@@ -122,39 +122,39 @@ Makes change old new result =
 -- What running a statement in a transaction leaves, whatever rows the tables have: how it ran, the
 -- last commit stays, a disk that is clean after it was clean before, and the connection lasts. A
 -- fault is that the store or memory refused it.
-pub record Runs {X : Type 0} (P : X → Type 0) (old new : State) (result : Result X StoreFault) :
+pub record StatementRuns {X : Type 0} (P : X → Type 0) (old new : State) (result : Result X StoreFault) :
     Type 0 where
   pub ran : HasCleanDisk new → IfOk result P
-  pub keeps : KeepsBase old new
+  pub keeps : KeepsCommitted old new
   pub clean : WasClean old new
-  pub lasts : Lasts old new
+  pub lasts : KeepsConnection old new
   pub refused : IfErr result (λ e. e ≡ Refused)
 
 -- What a statement or a row of them does in a transaction: of whatever the tables hold it makes
 -- `change`. Whatever rows they have, the last commit stays, and the transaction goes on where
 -- nothing is refused. A disk that is clean after it was clean before, and the connection lasts. A
 -- fault is that the store or memory refused it.
-pub record Does {X : Type 0} (change : Contents → Contents) (old new : State)
+pub record StatementChanges {X : Type 0} (change : Contents → Contents) (old new : State)
     (result : Result X StoreFault) : Type 0 where
   pub makes : Makes change old new result
-  pub keeps : KeepsBase old new
-  pub goes_on : GoesOn old → OnOk result (GoesOn new)
+  pub keeps : KeepsCommitted old new
+  pub goes_on : InTransaction old → OnOk result (InTransaction new)
   pub clean : WasClean old new
-  pub lasts : Lasts old new
+  pub lasts : KeepsConnection old new
   pub refused : IfErr result (λ e. e ≡ Refused)
 
 -- What a query does there: the tables hold what they held. Whatever tables there are, they are as
 -- they were, the last commit stays, and the transaction goes on where nothing is refused. A disk
 -- that is clean after it was clean before, and the connection lasts.
-pub record Looks {X : Type 0} (old new : State) (result : Result X StoreFault) : Type 0 where
+pub record QueryInTransaction {X : Type 0} (old new : State) (result : Result X StoreFault) : Type 0 where
   pub makes : Makes (λ c. c) old new result
   pub same : HasCleanDisk new → IfOk result (λ x. IsTrue old.is_open × (new.now ≡ old.now))
-  pub keeps : KeepsBase old new
-  pub goes_on : GoesOn old → OnOk result (GoesOn new)
+  pub keeps : KeepsCommitted old new
+  pub goes_on : InTransaction old → OnOk result (InTransaction new)
   pub clean : WasClean old new
-  pub lasts : Lasts old new
+  pub lasts : KeepsConnection old new
 
 -- what is answered there is so of whatever the tables hold
-abbrev pub Inside : {X : Type 0} → (Contents → X → Type 0) → State → State → Result X StoreFault
+abbrev pub AnswersInTransaction : {X : Type 0} → (Contents → X → Type 0) → State → State → Result X StoreFault
     → Type 0
-Inside P old new result = (c : Contents) → HoldsNow c old → HasCleanDisk new → IfOk result (P c)
+AnswersInTransaction P old new result = (c : Contents) → HoldsNow c old → HasCleanDisk new → IfOk result (P c)

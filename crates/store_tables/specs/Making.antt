@@ -7,13 +7,13 @@ use Rattle.sqlite.specs.Effect.{Database}
 use Rattle.sqlite.specs.declared.types.Value.TheVariants.{Int}
 use Rattle.sqlite_rules.specs.Lists.{Has}
 use Rattle.desk_model.specs.Desk.{empty_desk}
-use Rattle.store_tables.specs.Calls.{FailsIn, Looks}
+use Rattle.store_tables.specs.Calls.{FailsIn, QueryInTransaction}
 use Rattle.store_tables.specs.Contents.Meta.{meta, version_row, version_shown}
 use Rattle.store_tables.specs.Strict.{no_schema}
 use Rattle.store_tables.specs.Values.{IsNumberRow, IsWholeRow}
 use Rattle.store_tables.specs.Contents.{Contents, HasBadRow, Tables}
 use Rattle.store_tables.specs.Picked.{shows}
-use Rattle.store_tables.specs.Stands.{HasFront, HasTables, HoldsNow, StandsFor, WhereOpen}
+use Rattle.store_tables.specs.Stands.{HasFront, HasTables, HoldsNow, Represents, WhereOpen}
 use Rattle.store_tables.specs.declared.fault.StoreFault.{StoreFault}
 use Rattle.store_tables.specs.declared.fault.StoreFault.TheVariants.{Mismatch, Refused}
 use Rattle.store_tables.specs.declared.fault.StoreFault.TheVariants.{WrongVersion}
@@ -84,7 +84,7 @@ ShowsVersionOf s (Some z) = IsVersionOf s z
 
 -- What is read of meta in a transaction, whatever rows stand elsewhere.
 pub record ReadsVersion (old new : State) (result : Result (Option ℤ) StoreFault) : Type 0 where
-  pub looks : Looks old new result
+  pub looks : QueryInTransaction old new result
   pub shown : HasTables old → HasCleanDisk new → IfOk result (ShowsVersionOf old)
   pub fails : MismatchesInMeta old new result
 
@@ -101,7 +101,7 @@ BlamesMeta old new result =
 abbrev pub MakesDesk : {X : Type 0} → State → State → Result X StoreFault → Type 0
 MakesDesk old new result =
     IsBlank old
-    → OnOk result (StandsFor empty_desk new) × OnErr result (IsBlank new)
+    → OnOk result (Represents empty_desk new) × OnErr result (IsBlank new)
     × (HasCleanDisk new → IfErr result (λ e. e ≡ Refused))
 
 -- where there is no table it is refused

@@ -14,14 +14,14 @@ use Rattle.store_tables.specs.Contents.Stay.{IsStayRow, stay, stay_shown}
 use Rattle.store_tables.specs.Contents.Watcher.{IsWatcherRow, watcher}
 use Rattle.store_tables.specs.Query.{three_shown}
 use Rattle.store_tables.specs.Values.{IsNumberRow}
-use Rattle.store_tables.specs.Calls.{Answers, AreThere, FailsIn, Spares, TestsAll}
+use Rattle.store_tables.specs.Calls.{Answers, AreThere, FailsIn, LeavesTables, ValidatesTable}
 use Rattle.store_tables.specs.Contents.{Contents, contents_of, HasBadRows}
 use Rattle.store_tables.specs.declared.fault.StoreFault.{StoreFault}
 use Rattle.store_tables.specs.declared.fault.StoreFault.TheVariants.{Mismatch, WrongVersion}
 
 -- No fault is of the version, and a mismatch comes only of a bad row in tables that are there: in
 -- an open store, as they are or as the last commit left them.
-pub record Blames {X : Type 0} (old new : State) (result : Result X StoreFault) : Type 0 where
+pub record MismatchMeansBadRow {X : Type 0} (old new : State) (result : Result X StoreFault) : Type 0 where
   pub known : IfErr result (λ e. e ≢ WrongVersion)
   pub mismatch : IfErr result (λ e. e ≡ Mismatch → AreThere old → HasCleanDisk new
       → IsTrue old.is_open × (HasBadRows old.now ⊎ HasBadRows old.committed))
@@ -31,8 +31,8 @@ pub record Blames {X : Type 0} (old new : State) (result : Result X StoreFault) 
 pub record Reads {X : Type 0} (P : Contents → X → Type 0) (old new : State)
     (result : Result X StoreFault) : Type 0 where
   pub told : Answers P old new result
-  pub kept : Spares old new
-  pub blames : Blames old new result
+  pub kept : LeavesTables old new
+  pub blames : MismatchMeansBadRow old new result
 
 -- the contents are those of the desk, with some due moments
 pub record AreOf (desk : Desk) (c : Contents) : Type 0 where
@@ -75,24 +75,24 @@ MismatchesInStays old new result = FailsIn stay.tree stay_shown IsStayRow old ne
 -- ---- of a whole table: where it is read, no row of it is bad
 
 abbrev pub TestsQueues : {X : Type 0} → State → State → Result X StoreFault → Type 0
-TestsQueues old new result = TestsAll queue.tree queue_shown IsQueueRow old new result
+TestsQueues old new result = ValidatesTable queue.tree queue_shown IsQueueRow old new result
 
 abbrev pub TestsRequests : {X : Type 0} → State → State → Result X StoreFault → Type 0
-TestsRequests old new result = TestsAll request.tree request_shown_terms IsRequestRow old new result
+TestsRequests old new result = ValidatesTable request.tree request_shown_terms IsRequestRow old new result
 
 -- of requests with their due moments
 abbrev pub TestsDated : {X : Type 0} → State → State → Result X StoreFault → Type 0
-TestsDated old new result = TestsAll request.tree dated_shown_terms IsDatedRow old new result
+TestsDated old new result = ValidatesTable request.tree dated_shown_terms IsDatedRow old new result
 
 abbrev pub TestsWatchers : {X : Type 0} → State → State → Result X StoreFault → Type 0
-TestsWatchers old new result = TestsAll watcher.tree three_shown IsWatcherRow old new result
+TestsWatchers old new result = ValidatesTable watcher.tree three_shown IsWatcherRow old new result
 
 abbrev pub TestsLinks : {X : Type 0} → State → State → Result X StoreFault → Type 0
-TestsLinks old new result = TestsAll link.tree three_shown IsLinkRow old new result
+TestsLinks old new result = ValidatesTable link.tree three_shown IsLinkRow old new result
 
 -- of entries but for their texts
 abbrev pub TestsEntries : {X : Type 0} → State → State → Result X StoreFault → Type 0
-TestsEntries old new result = TestsAll entry.tree bare_shown IsBareEntry old new result
+TestsEntries old new result = ValidatesTable entry.tree bare_shown IsBareEntry old new result
 
 abbrev pub TestsStays : {X : Type 0} → State → State → Result X StoreFault → Type 0
-TestsStays old new result = TestsAll stay.tree stay_shown IsStayRow old new result
+TestsStays old new result = ValidatesTable stay.tree stay_shown IsStayRow old new result

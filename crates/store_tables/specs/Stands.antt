@@ -17,20 +17,20 @@ abbrev pub WhereOpen : (State → Type 0) → State → Type 0
 WhereOpen P s = HasCleanDisk s → IsTrue s.is_open → P s
 
 -- the tables hold this, and so do those of the last commit
-abbrev pub Stand : Contents → State → Type 0
-Stand c = WhereOpen (λ s. Tables c s.now × Tables c s.committed)
+abbrev pub HoldCommitted : Contents → State → Type 0
+HoldCommitted c = WhereOpen (λ s. Tables c s.now × Tables c s.committed)
 
 -- the tables stand for the desk, with any due moments
-abbrev pub StandsFor : Desk → State → Type 0
-StandsFor desk s = (due : RequestRow → Option ℕ) × Stand (contents_of due desk) s
+abbrev pub Represents : Desk → State → Type 0
+Represents desk s = (due : RequestRow → Option ℕ) × HoldCommitted (contents_of due desk) s
 
 -- in a transaction the tables hold this, whatever the last commit left
 abbrev pub HoldsNow : Contents → State → Type 0
 HoldsNow c = WhereOpen (λ s. Tables c s.now × (s.in_transaction ≡ true))
 
 -- in a transaction that goes on, whatever rows the tables have
-abbrev pub GoesOn : State → Type 0
-GoesOn = WhereOpen (λ s. s.in_transaction ≡ true)
+abbrev pub InTransaction : State → Type 0
+InTransaction = WhereOpen (λ s. s.in_transaction ≡ true)
 
 -- the tables are there, with any rows
 abbrev pub HasTables : State → Type 0
@@ -44,8 +44,8 @@ OnlyStaysChange old new =
     × KeepsRows first_schema.tables old.now.trees new.now.trees
 
 -- the tables are again as the last commit left them
-abbrev pub GoesBack : State → State → Type 0
-GoesBack old new =
+abbrev pub RolledBack : State → State → Type 0
+RolledBack old new =
     HasCleanDisk new → IsTrue new.is_open
     → HasCleanDisk old × IsTrue old.is_open × (new.now ≡ old.committed)
     × (new.committed ≡ old.committed)
@@ -56,19 +56,19 @@ Commits old new =
     HasCleanDisk new → IsTrue old.is_open × (new.now ≡ old.now) × (new.committed ≡ old.now)
 
 -- the last commit stays what it was, whatever it is
-abbrev pub KeepsBase : State → State → Type 0
-KeepsBase old new =
+abbrev pub KeepsCommitted : State → State → Type 0
+KeepsCommitted old new =
     HasCleanDisk new → IsTrue new.is_open
     → HasCleanDisk old × IsTrue old.is_open × (new.committed ≡ old.committed)
 
 -- the statement ran in a transaction, which goes on
-pub record Ran (sql : List ℕ) (params : Row) (old new : State) (count : ℕ) : Type 0 where
+pub record HasRun (sql : List ℕ) (params : Row) (old new : State) (count : ℕ) : Type 0 where
   pub runs : Executes sql params old new (Ok count)
   pub shown : Shows old new new.now old.committed true
 
 -- it did, and changed one row or none
 abbrev pub RanOnAny : List ℕ → Row → State → State → Type 0
-RanOnAny sql params old new = (count : ℕ) × (count < 2) × Ran sql params old new count
+RanOnAny sql params old new = (count : ℕ) × (count < 2) × HasRun sql params old new count
 
 -- ---- where only some of the tables are there
 
@@ -88,8 +88,8 @@ pub record FirstTables (c : Contents) (db : Database) : Type 0 where
   pub tables : Tables c (filled 6 db)
 
 -- the six tables hold this, and so do those of the last commit
-abbrev pub FirstStand : Contents → State → Type 0
-FirstStand c = WhereOpen (λ s. FirstTables c s.now × FirstTables c s.committed)
+abbrev pub FirstHoldCommitted : Contents → State → Type 0
+FirstHoldCommitted c = WhereOpen (λ s. FirstTables c s.now × FirstTables c s.committed)
 
 -- the first n of the seven tables are there, none, some or all, with any rows
 abbrev pub HasFront : State → Type 0
@@ -98,4 +98,4 @@ HasFront = WhereOpen (λ s. (n : ℕ) × (n ≤ table_count) × (s.now.schema �
 -- the six tables stand for the desk, with any due moments
 abbrev pub FirstStandsFor : Desk → State → Type 0
 FirstStandsFor desk s =
-    (due : RequestRow → Option ℕ) × FirstStand (first_contents_of due desk) s
+    (due : RequestRow → Option ℕ) × FirstHoldCommitted (first_contents_of due desk) s

@@ -2,9 +2,9 @@
 ghost use Rattle.std.specs.Prelude.{◌≡◌, false, IfErr, OnOk, OnErr};
 ghost use Rattle.sqlite.specs.Held.{state};
 ghost use Rattle.sqlite.specs.Values.{bound};
-ghost use Rattle.store_tables.specs.Calls.{Lasts, Runs, WasClean};
+ghost use Rattle.store_tables.specs.Calls.{KeepsConnection, StatementRuns, WasClean};
 ghost use Rattle.store_tables.specs.Contents.{Contents};
-ghost use Rattle.store_tables.specs.Stands.{Commits, GoesBack, GoesOn, HoldsNow, Ran, RanOnAny, Stand};
+ghost use Rattle.store_tables.specs.Stands.{Commits, RolledBack, InTransaction, HoldsNow, HasRun, RanOnAny, HoldCommitted};
 ghost use Rattle.store_tables.specs.declared.fault.StoreFault.{StoreFault};
 
 use crate::fault::StoreFault;
@@ -20,7 +20,7 @@ pub fn run<S: Alter>(
     params: &[ValueRef<'_>],
 ) -> Result<usize, StoreFault>
     ensures same_reference { tx.new.conn.ghost_name ≡ tx.old.conn.ghost_name }
-    ensures runs { Runs (λ count. Ran sql.now (bound params.now)
+    ensures runs { StatementRuns (λ count. HasRun sql.now (bound params.now)
         (state S.Store tx.old.conn.now) (state S.Store tx.new.conn.now) count)
         (state S.Store tx.old.conn.now) (state S.Store tx.new.conn.now) result }
 {
@@ -37,7 +37,7 @@ pub(crate) fn run_on_one<S: Alter>(
     params: &[ValueRef<'_>],
 ) -> Result<(), StoreFault>
     ensures same_reference { tx.new.conn.ghost_name ≡ tx.old.conn.ghost_name }
-    ensures runs { Runs (λ done. Ran sql.now (bound params.now)
+    ensures runs { StatementRuns (λ done. HasRun sql.now (bound params.now)
         (state S.Store tx.old.conn.now) (state S.Store tx.new.conn.now) 1)
         (state S.Store tx.old.conn.now) (state S.Store tx.new.conn.now) result }
 {
@@ -55,7 +55,7 @@ pub(crate) fn run_on_any<S: Alter>(
     params: &[ValueRef<'_>],
 ) -> Result<(), StoreFault>
     ensures same_reference { tx.new.conn.ghost_name ≡ tx.old.conn.ghost_name }
-    ensures runs { Runs (λ done. RanOnAny sql.now (bound params.now)
+    ensures runs { StatementRuns (λ done. RanOnAny sql.now (bound params.now)
         (state S.Store tx.old.conn.now) (state S.Store tx.new.conn.now))
         (state S.Store tx.old.conn.now) (state S.Store tx.new.conn.now) result }
 {
@@ -71,13 +71,13 @@ pub(crate) fn run_on_any<S: Alter>(
 pub fn finish<S: Alter>(tx: Transaction<'_, S>) -> Result<(), StoreFault>
     ensures ended { tx.exit.0.now.in_transaction ≡ false }
     ensures done { (c : Contents) → HoldsNow c (state S.Store tx.entry.conn.now) →
-        OnOk result (Stand c (state S.Store tx.exit.0.now)) }
+        OnOk result (HoldCommitted c (state S.Store tx.exit.0.now)) }
     ensures shown { OnOk result
         (Commits (state S.Store tx.entry.conn.now) (state S.Store tx.exit.0.now)) }
-    ensures back { GoesOn (state S.Store tx.entry.conn.now) →
-        OnErr result (GoesBack (state S.Store tx.entry.conn.now) (state S.Store tx.exit.0.now)) }
+    ensures back { InTransaction (state S.Store tx.entry.conn.now) →
+        OnErr result (RolledBack (state S.Store tx.entry.conn.now) (state S.Store tx.exit.0.now)) }
     ensures honest { WasClean (state S.Store tx.entry.conn.now) (state S.Store tx.exit.0.now) }
-    ensures lasts { Lasts (state S.Store tx.entry.conn.now) (state S.Store tx.exit.0.now) }
+    ensures lasts { KeepsConnection (state S.Store tx.entry.conn.now) (state S.Store tx.exit.0.now) }
     ensures fault { IfErr result (λ e. e ≡ StoreFault.Refused) }
 {
     match tx.commit() {

@@ -3,7 +3,7 @@
 //! transaction ends.
 ghost use Rattle.std.specs.Prelude.{◌≡◌, fold, option_to_list};
 ghost use Rattle.sqlite.specs.Held.{state};
-ghost use Rattle.store_tables.specs.Calls.{Does};
+ghost use Rattle.store_tables.specs.Calls.{StatementChanges};
 ghost use Rattle.store_tables.specs.Contents.{Contents};
 
 use crate::fault::StoreFault;
@@ -17,7 +17,7 @@ pub trait Put: Sized {
     /// Puts it in. `Refused` where the store or memory refuses it.
     fn put<S: Alter>(&self, tx: &mut Transaction<'_, S>) -> Result<(), StoreFault>
         ensures same_reference { tx.new.conn.ghost_name ≡ tx.old.conn.ghost_name }
-        ensures put { Does (λ c. put_in c self.now)
+        ensures put { StatementChanges (λ c. put_in c self.now)
             (state S.Store tx.old.conn.now) (state S.Store tx.new.conn.now) result };
 }
 
@@ -29,14 +29,14 @@ pub trait Take: Sized {
     /// Takes it out. `Refused` where it isn't there, or the store or memory refuses it.
     fn take<S: Alter>(&self, tx: &mut Transaction<'_, S>) -> Result<(), StoreFault>
         ensures same_reference { tx.new.conn.ghost_name ≡ tx.old.conn.ghost_name }
-        ensures taken { Does (λ c. taken_out c self.now)
+        ensures taken { StatementChanges (λ c. taken_out c self.now)
             (state S.Store tx.old.conn.now) (state S.Store tx.new.conn.now) result };
 }
 
 /// Puts rows in, in order. `Refused` where the store or memory refuses one.
 pub fn put_all<T: Put, S: Alter>(tx: &mut Transaction<'_, S>, rows: &[T]) -> Result<(), StoreFault>
     ensures same_reference { tx.new.conn.ghost_name ≡ tx.old.conn.ghost_name }
-    ensures put { Does (λ c. fold T.Put.put_in c rows.now)
+    ensures put { StatementChanges (λ c. fold T.Put.put_in c rows.now)
         (state S.Store tx.old.conn.now) (state S.Store tx.new.conn.now) result }
 {
     for row in rows {
@@ -51,7 +51,7 @@ pub fn take_all<T: Take, S: Alter>(
     rows: &[T],
 ) -> Result<(), StoreFault>
     ensures same_reference { tx.new.conn.ghost_name ≡ tx.old.conn.ghost_name }
-    ensures taken { Does (λ c. fold T.Take.taken_out c rows.now)
+    ensures taken { StatementChanges (λ c. fold T.Take.taken_out c rows.now)
         (state S.Store tx.old.conn.now) (state S.Store tx.new.conn.now) result }
 {
     for row in rows {
@@ -66,7 +66,7 @@ pub fn put_any<T: Put, S: Alter>(
     row: &Option<T>,
 ) -> Result<(), StoreFault>
     ensures same_reference { tx.new.conn.ghost_name ≡ tx.old.conn.ghost_name }
-    ensures put { Does (λ c. fold T.Put.put_in c (option_to_list row.now))
+    ensures put { StatementChanges (λ c. fold T.Put.put_in c (option_to_list row.now))
         (state S.Store tx.old.conn.now) (state S.Store tx.new.conn.now) result }
 {
     match row {
@@ -82,7 +82,7 @@ pub fn take_any<T: Take, S: Alter>(
     row: &Option<T>,
 ) -> Result<(), StoreFault>
     ensures same_reference { tx.new.conn.ghost_name ≡ tx.old.conn.ghost_name }
-    ensures taken { Does (λ c. fold T.Take.taken_out c (option_to_list row.now))
+    ensures taken { StatementChanges (λ c. fold T.Take.taken_out c (option_to_list row.now))
         (state S.Store tx.old.conn.now) (state S.Store tx.new.conn.now) result }
 {
     match row {

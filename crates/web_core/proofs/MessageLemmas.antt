@@ -11,8 +11,8 @@ use Rattle.message_core.specs.declared.fault.WireFault.{WireFault}
 use Rattle.message_core.specs.declared.fault.WireFault.TheVariants.{BadHead, BadLength, NoMemory, Read}
 use Rattle.message_core.specs.declared.fault.WireFault.TheVariants.{TooLong, Truncated}
 use Rattle.message_core.specs.declared.request.Request.{Request}
-use Rattle.service_core.specs.TableSteps.{LeadsOn}
-use Rattle.store_tables.specs.Calls.{Spares}
+use Rattle.service_core.specs.TableSteps.{OverTables}
+use Rattle.store_tables.specs.Calls.{LeavesTables}
 use Rattle.wire_core.specs.Replies.{TellsFault}
 use Rattle.wire_core.specs.Runs.{Sent}
 use Rattle.wire_core.proofs.Stepping.{leads_nowhere, leads_same, leads_wider}
@@ -43,7 +43,7 @@ nothing_else s read false control is same = same
 abbrev TakenOn : Settings → ℕ → Bool → Result Request WireFault → Control → List ℕ → State → State
     → Type 0
 TakenOn s at copied read control bytes =
-    LeadsOn s (λ desk after. TakenSteps s at copied read control desk bytes after)
+    OverTables s (λ desk after. TakenSteps s at copied read control desk bytes after)
 
 no_memory : (bytes : List ℕ) → TellsFault NoMemory bytes → bytes ≡ bytes_of (unavailable false)
 no_memory bytes (inl is) = is
@@ -51,7 +51,7 @@ no_memory bytes (inr (other, told)) = absurd (other refl)
 
 -- there was no memory for the step
 pub left_out : (s : Settings) (sent : Sent) (bytes : List ℕ) (old new : State)
-    → bytes ≡ bytes_of (unavailable false) → Spares old new → IsRepliedOn s sent bytes old new
+    → bytes ≡ bytes_of (unavailable false) → LeavesTables old new → IsRepliedOn s sent bytes old new
 unfolding IsReplyTo
 left_out s sent bytes old new is kept =
     leads_same s (λ desk after. IsReplyTo s sent desk bytes after) old new kept

@@ -1,7 +1,7 @@
 -- The step of a message, after which the tables are only looked at.
 use Rattle.sqlite.specs.State.{State}
 use Rattle.settings_core.specs.declared.settings.Settings.{Settings}
-use Rattle.store_tables.specs.Calls.{Spares}
+use Rattle.store_tables.specs.Calls.{LeavesTables}
 use Rattle.store_tables.specs.Contents.{contents_of}
 use Rattle.store_tables.proofs.Lasting.{on}
 use Rattle.store_tables.proofs.Spared.{stands}
@@ -10,7 +10,7 @@ use Rattle.server_core.specs.Turns.{Answered}
 use Rattle.web_core.specs.Messages.{StepsAt}
 
 pub step_spared : (s : Settings) (old mid new : State) (a : Answered)
-    → StepsAt s old a mid → Spares mid new → StepsAt s old a new
+    → StepsAt s old a mid → LeavesTables mid new → StepsAt s old a new
 step_spared s old mid new a did kept = (
   λ desk is stand clean.
       let it = did.0 desk is stand (kept.clean clean) in

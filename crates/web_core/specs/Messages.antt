@@ -3,8 +3,8 @@ use Rattle.std.specs.Prelude.{◌≡◌, ◌⊎◌, ℕ, Bool, false, List, [], 
 use Rattle.sqlite.specs.State.{State}
 use Rattle.settings_core.specs.declared.settings.Settings.{Settings}
 use Rattle.desk_model.specs.Desk.{Desk}
-use Rattle.service_core.specs.TableSteps.{LeadsOn}
-use Rattle.store_tables.specs.Calls.{Lasts, WasClean}
+use Rattle.service_core.specs.TableSteps.{OverTables}
+use Rattle.store_tables.specs.Calls.{KeepsConnection, WasClean}
 use Rattle.http_rules.specs.Expectation.{IsExpecting, expectation_failed}
 use Rattle.http_rules.specs.Rules.{IsByRules}
 use Rattle.message_core.specs.Reply.{bytes_of}
@@ -58,16 +58,16 @@ IsSentTo settings sent old bytes new =
 
 abbrev pub IsRepliedOn : Settings → Sent → List ℕ → State → State → Type 0
 IsRepliedOn settings sent bytes =
-    LeadsOn settings (λ desk after. IsReplyTo settings sent desk bytes after)
+    OverTables settings (λ desk after. IsReplyTo settings sent desk bytes after)
 
 abbrev pub IsSentOn : Settings → Sent → List ℕ → State → State → Type 0
 IsSentOn settings sent bytes =
-    LeadsOn settings (λ desk after. IsSentTo settings sent desk bytes after)
+    OverTables settings (λ desk after. IsSentTo settings sent desk bytes after)
 
 -- its step, in tables whose disk told of no fault that it now hides, under the same settings
 abbrev pub StepsAt : Settings → State → Answered → State → Type 0
 StepsAt settings old a new =
-    IsSentOn settings (sent_of a) a.reply old new × WasClean old new × Lasts old new
+    IsSentOn settings (sent_of a) a.reply old new × WasClean old new × KeepsConnection old new
 
 -- one after the other, each from the desk that the message before left, and with its reply
 abbrev pub RunsAnswers : Settings → Desk → List Answered → Desk → Type 0
@@ -78,7 +78,7 @@ RunsAnswers settings old (a ∷ rest) new =
 
 abbrev pub RunsAnswersOn : Settings → List Answered → State → State → Type 0
 RunsAnswersOn settings answers =
-    LeadsOn settings (λ desk after. RunsAnswers settings desk answers after)
+    OverTables settings (λ desk after. RunsAnswers settings desk answers after)
 
 -- the tables are those after the messages of some list, each with its minute, and its reply is that
 -- of its step

@@ -9,7 +9,7 @@ use Rattle.settings_core.specs.declared.settings.Settings.{Settings}
 use Rattle.desk_model.specs.Desk.{Desk}
 use Rattle.desk_model.specs.IsDesk.{IsDesk}
 use Rattle.store_tables.proofs.Spared.{unread}
-use Rattle.store_tables.specs.Calls.{Spares, WasClean}
+use Rattle.store_tables.specs.Calls.{LeavesTables, WasClean}
 use Rattle.stream_core.specs.Seen.{has_write_failed, held_in}
 use Rattle.stream_core.specs.Streams.{ConsumesAtMost}
 use Rattle.stream_core.specs.Written.{IsWritten, Prints, WritesOn}
@@ -19,7 +19,7 @@ use Rattle.message_core.specs.declared.fault.WireFault.{WireFault}
 use Rattle.wire_core.specs.Fault.{is_unread, tells_failed_read, tells_failed_write}
 use Rattle.wire_core.specs.Runs.{IsReplyOver, Replied, RunsMessagesOn, RunsOver, Sent}
 use Rattle.wire_core.specs.Runs.{all_replied, all_sent, replied_of, sent_of}
-use Rattle.wire_core.specs.Served.{GivesRoom, IsAnswer, IsSent, IsServed, IsServedBy, Replies, TellsRead}
+use Rattle.wire_core.specs.Served.{HasRoomOrLeft, IsAnswer, IsSent, IsServed, IsServedBy, Replies, TellsRead}
 use Rattle.wire_core.specs.Served.{reply_in}
 use Rattle.wire_core.specs.Steps.{CommandSteps, ReadSteps, StaysOn, StreamSteps, StreamStepsOn}
 use Rattle.wire_core.specs.declared.fault.ServeFault.{ServeFault}
@@ -96,7 +96,7 @@ unread_told fault (Err Unread) told = sym (ap is_read told)
 
 -- where there is no reply the desk is as it was
 pub untouched_by : {D : Type 0} (whole : Bool) (r : Result Room Unanswered) (old new : D)
-    → GivesRoom whole r old new → reply_in r ≡ None → new ≡ old
+    → HasRoomOrLeft whole r old new → reply_in r ≡ None → new ≡ old
 untouched_by whole (Ok room) old new given none = absurd cc
 untouched_by whole (Err fault) old new same none = same
 
@@ -146,7 +146,7 @@ served_counted contents tables s at had left before after h l from to (Err Write
 served_counted {W} {D} contents tables s at had left before after h l from to (Err Read) old new
     had_is left_is before_is after_is unfailed failed served = (
       sym after_is ∙ ap (held_in contents) served.0 ∙ before_is,
-      subst (λ (d : D). Spares (tables old) (tables d)) (sym served.1) (unread (tables old)),
+      subst (λ (d : D). LeavesTables (tables old) (tables d)) (sym served.1) (unread (tables old)),
     )
 served_counted contents tables s at had left before after h l from to (Err NoMemory) old new had_is
     left_is before_is after_is unfailed failed served = absurd served

@@ -19,10 +19,10 @@ use Rattle.message_core.specs.declared.fault.WireFault.{WireFault}
 use Rattle.message_core.specs.declared.message.Message.{Message}
 use Rattle.route_core.specs.Commands.{Asked, asked_of}
 use Rattle.route_core.specs.declared.fault.Unasked.{Unasked}
-use Rattle.service_core.specs.TableSteps.{LeadsOn, StepsOn}
-use Rattle.store_core.specs.Due.{StandsDue, due_of_row}
+use Rattle.service_core.specs.TableSteps.{OverTables, StepOverTables}
+use Rattle.store_core.specs.Due.{RepresentsWithDue, due_of_row}
 use Rattle.store_tables.proofs.Spared.{stands, unread}
-use Rattle.store_tables.specs.Calls.{Spares}
+use Rattle.store_tables.specs.Calls.{LeavesTables}
 use Rattle.store_tables.specs.Contents.{contents_of}
 use Rattle.wire_core.specs.Replies.{is_head, outcome_reply, unasked_reply}
 use Rattle.wire_core.specs.Runs.{IsReplyOver, RepliesOn, Replied, Sent}
@@ -34,15 +34,15 @@ use Rattle.wire_core.specs.declared.fault.ServeFault.{ServeFault}
 
 -- what one relation leads to, a wider one does
 pub leads_wider : (s : Settings) (P Q : Desk → Desk → Type 0) (old new : State)
-    → ((desk after : Desk) → P desk after → Q desk after) → LeadsOn s P old new
-    → LeadsOn s Q old new
+    → ((desk after : Desk) → P desk after → Q desk after) → OverTables s P old new
+    → OverTables s Q old new
 leads_wider s P Q old new wider leads desk is stands clean =
     let led = leads desk is stands clean in
     (led.0, (wider desk led.0 led.1.0, led.1.1), led.2)
 
 -- a relation that holds of each desk and itself leads from tables to themselves
 pub leads_nowhere : (s : Settings) (P : Desk → Desk → Type 0) (tables : State)
-    → ((desk : Desk) → P desk desk) → LeadsOn s P tables tables
+    → ((desk : Desk) → P desk desk) → OverTables s P tables tables
 leads_nowhere s P tables holds desk is stands clean = (desk, (holds desk, is), stands)
 
 pub stays : (s : Settings) (tables : State) → StaysOn s tables tables
@@ -53,7 +53,7 @@ stays s tables = leads_nowhere s (λ desk after. after ≡ desk) tables (λ desk
 -- a command was done, and this is the reply with what came of it
 pub done : (s : Settings) (ask : Ask) (h : Bool) (outcome : Outcome) (bytes : List ℕ)
     (old new : State) → bytes ≡ bytes_of (outcome_reply h outcome)
-    → StepsOn s ask outcome old new → IsDoneOn s ask h bytes old new
+    → StepOverTables s ask outcome old new → IsDoneOn s ask h bytes old new
 done s ask h outcome bytes old new told steps desk is stands clean =
     let step = steps desk is stands clean in
     (step.0, ((outcome, step.1.0, told), step.1.1), step.2)
@@ -74,7 +74,7 @@ refused_same s at caller command old new refusal (inr made) =
 
 -- so does one that was out of memory
 pub unavailable_stays : (s : Settings) (ask : Ask) (old new : State)
-    → StepsOn s ask (Err Unavailable) old new → StaysOn s old new
+    → StepOverTables s ask (Err Unavailable) old new → StaysOn s old new
 unavailable_stays s ask old new steps desk is stands clean =
     let step = steps desk is stands clean in (
       step.0,
@@ -149,23 +149,23 @@ left_out s at had left tables = (Err WireFault.NoMemory, inl refl, (inl refl, un
 -- ---- what is so over whatever tables is so of the desk that they stand for
 
 -- tables that are spared stand for the desk that they stood for
-still : (s : Settings) (old new : State) → Spares old new → (desk : Desk)
-    → StandsDue s desk old → StandsDue s desk new
+still : (s : Settings) (old new : State) → LeavesTables old new → (desk : Desk)
+    → RepresentsWithDue s desk old → RepresentsWithDue s desk new
 still s old new kept desk stand = stands kept (contents_of (due_of_row s desk) desk) stand
 
-pub leads_same : (s : Settings) (P : Desk → Desk → Type 0) (old new : State) → Spares old new
-    → ((desk : Desk) → P desk desk) → LeadsOn s P old new
+pub leads_same : (s : Settings) (P : Desk → Desk → Type 0) (old new : State) → LeavesTables old new
+    → ((desk : Desk) → P desk desk) → OverTables s P old new
 leads_same s P old new kept holds desk is stand clean =
     (desk, (holds desk, is), still s old new kept desk stand)
 
-pub spared_stays : (s : Settings) (old new : State) → Spares old new → StaysOn s old new
+pub spared_stays : (s : Settings) (old new : State) → LeavesTables old new → StaysOn s old new
 spared_stays s old new kept =
     leads_same s (λ desk after. after ≡ desk) old new kept (λ desk. refl)
 
 module _ (s : Settings) (at : ℕ) where
   command_leads : (message : Message) (asked : Asked)
       (bytes : List ℕ) (old new : State) → CommandStepsOn s at message asked bytes old new
-      → LeadsOn s (λ desk after. CommandSteps s at message asked desk bytes after) old new
+      → OverTables s (λ desk after. CommandSteps s at message asked desk bytes after) old new
   command_leads message (Err unasked) bytes old new did =
       leads_same s (λ desk after. CommandSteps s at message (Err unasked) desk bytes after) old new
       did.1 (λ desk. (did.0, refl))
@@ -173,7 +173,7 @@ module _ (s : Settings) (at : ℕ) where
 
   left_leads : (h : Bool) (asked : Asked) (bytes : List ℕ)
       (old new : State) → bytes ≡ bytes_of (unavailable h) → LeavesOn s asked old new
-      → LeadsOn s (λ desk after. LeavesOut h desk bytes after) old new
+      → OverTables s (λ desk after. LeavesOut h desk bytes after) old new
   left_leads h (Err unasked) bytes old new told same =
       leads_same s (λ desk after. LeavesOut h desk bytes after) old new same (λ desk. (told, refl))
   left_leads h (Ok asked) bytes old new told stay =
@@ -181,7 +181,7 @@ module _ (s : Settings) (at : ℕ) where
 
   pub read_leads : (read : Result Message WireFault) (bytes : List ℕ) (old new : State)
       → ReadStepsOn s at read bytes old new
-      → LeadsOn s (λ desk after. ReadSteps s at read desk bytes after) old new
+      → OverTables s (λ desk after. ReadSteps s at read desk bytes after) old new
   read_leads (Err fault) bytes old new did =
       leads_same s (λ desk after. ReadSteps s at (Err fault) desk bytes after) old new did.1
       (λ desk. (did.0, refl))
@@ -194,7 +194,7 @@ module _ (s : Settings) (at : ℕ) where
 
   pub stream_leads : (had left : Option (List ℕ)) (bytes : List ℕ) (old new : State)
       → StreamStepsOn s at had left bytes old new
-      → LeadsOn s (λ desk after. StreamSteps s at had left desk bytes after) old new
+      → OverTables s (λ desk after. StreamSteps s at had left desk bytes after) old new
   stream_leads had left bytes old new did =
       leads_wider s _ _ old new (λ desk after steps. (did.0, did.1, steps))
       (read_leads did.0 bytes old new did.2)

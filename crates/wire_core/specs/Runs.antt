@@ -4,8 +4,8 @@ use Rattle.sqlite.specs.State.{State}
 use Rattle.settings_core.specs.declared.settings.Settings.{Settings}
 use Rattle.desk_model.specs.Desk.{Desk}
 use Rattle.desk_model.specs.Step.{RunsBy}
-use Rattle.service_core.specs.TableSteps.{LeadsOn}
-use Rattle.store_tables.specs.Calls.{Spares, WasClean}
+use Rattle.service_core.specs.TableSteps.{OverTables}
+use Rattle.store_tables.specs.Calls.{LeavesTables, WasClean}
 use Rattle.wire_core.specs.Steps.{StreamSteps, StreamStepsOn}
 use Rattle.wire_core.specs.declared.fault.ServeFault.{ServeFault}
 use Rattle.wire_core.specs.declared.fault.ServeFault.TheVariants.{Read, Write, NoMemory}
@@ -31,7 +31,7 @@ IsReplyTo settings sent old (Err Write) new = ⊥
 abbrev pub IsReplyOver : Settings → Sent → Replied → State → State → Type 0
 IsReplyOver settings sent (Ok bytes) old new =
     (left : Option (List ℕ)) × StreamStepsOn settings sent.0 (Some sent.1) left bytes old new
-IsReplyOver settings sent (Err NoMemory) old new = Spares old new
+IsReplyOver settings sent (Err NoMemory) old new = LeavesTables old new
 IsReplyOver settings sent (Err Read) old new = ⊥
 IsReplyOver settings sent (Err Write) old new = ⊥
 
@@ -49,12 +49,12 @@ RunsOver tables settings (sent ∷ others) [] old new = ⊥
 
 abbrev pub RepliesOn : Settings → Sent → Replied → State → State → Type 0
 RepliesOn settings sent reply =
-    LeadsOn settings (λ desk after. IsReplyTo settings sent desk reply after)
+    OverTables settings (λ desk after. IsReplyTo settings sent desk reply after)
 
 -- a run of messages
 abbrev pub RunsMessagesOn : Settings → List Sent → List Replied → State → State → Type 0
 RunsMessagesOn settings sent replies =
-    LeadsOn settings
+    OverTables settings
     (λ desk after. RunsBy (IsReplyTo settings) desk sent replies after)
 
 -- ---- as they are handed over

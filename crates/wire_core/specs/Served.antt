@@ -5,7 +5,7 @@ use Rattle.sqlite.specs.State.{State}
 use Rattle.settings_core.specs.declared.settings.Settings.{Settings}
 use Rattle.message_core.specs.Reply.{bytes_of, unavailable}
 use Rattle.message_core.specs.declared.fault.WireFault.{WireFault}
-use Rattle.store_tables.specs.Calls.{Spares}
+use Rattle.store_tables.specs.Calls.{LeavesTables}
 use Rattle.stream_core.specs.Written.{IsWritten, Prints}
 use Rattle.stream_core.specs.declared.writer.CountedWriter.{CountedWriter}
 use Rattle.wire_core.specs.Replies.{TellsFault}
@@ -33,7 +33,7 @@ IsServed settings at had left before after (Ok done) old new =
     Replies settings at had left before after false old new
 IsServed settings at had left before after (Err Write) old new =
     Replies settings at had left before after true old new
-IsServed settings at had left before after (Err Read) old new = (after ≡ before) × Spares old new
+IsServed settings at had left before after (Err Read) old new = (after ≡ before) × LeavesTables old new
 IsServed settings at had left before after (Err NoMemory) old new = ⊥
 
 -- ---- by a reader and a writer that count
@@ -61,16 +61,16 @@ reply_in (Err Unread) = None
 
 -- a reply has no text by itself where it has to stand whole; where there is none, the desk is as it
 -- was
-abbrev pub GivesRoom : {D : Type 0} → Bool → Result Room Unanswered → D → D → Type 0
-GivesRoom whole (Ok room) old new = whole ≡ true → room.text ≡ []
-GivesRoom whole (Err fault) old new = new ≡ old
+abbrev pub HasRoomOrLeft : {D : Type 0} → Bool → Result Room Unanswered → D → D → Type 0
+HasRoomOrLeft whole (Ok room) old new = whole ≡ true → room.text ≡ []
+HasRoomOrLeft whole (Err fault) old new = new ≡ old
 
 -- the reply is that of the message step; there is none where nothing is done
 abbrev pub IsAnswer : Settings → ℕ → Option (List ℕ) → Option (List ℕ) → Option (List ℕ) → State
     → State → Type 0
 IsAnswer settings at had left (Some bytes) old new =
     StreamStepsOn settings at had left bytes old new
-IsAnswer settings at had left None old new = Spares old new
+IsAnswer settings at had left None old new = LeavesTables old new
 
 -- it went out, whole or up to a write that failed; or there is none, and none went out
 abbrev pub IsSent : {W : Type 0} → (W → Option (List ℕ)) → CountedWriter W → CountedWriter W

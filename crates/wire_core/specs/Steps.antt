@@ -10,8 +10,8 @@ use Rattle.message_core.specs.declared.fault.WireFault.{WireFault}
 use Rattle.message_core.specs.declared.fault.WireFault.TheVariants.{NoMemory}
 use Rattle.message_core.specs.declared.message.Message.{Message}
 use Rattle.route_core.specs.Commands.{Asked, asked_of}
-use Rattle.service_core.specs.TableSteps.{IsStep, LeadsOn, ask_by}
-use Rattle.store_tables.specs.Calls.{Spares}
+use Rattle.service_core.specs.TableSteps.{IsStep, OverTables, ask_by}
+use Rattle.store_tables.specs.Calls.{LeavesTables}
 use Rattle.wire_core.specs.Replies.{TellsFault, is_head, outcome_reply, unasked_reply}
 
 -- out of memory nothing is done, and the reply says so
@@ -64,23 +64,23 @@ IsUnavailable bytes = take 12 bytes ≡ codes "HTTP/1.1 503"
 
 -- the desk that they stand for stays, if they stand for one
 abbrev pub StaysOn : Settings → State → State → Type 0
-StaysOn settings = LeadsOn settings (λ desk after. after ≡ desk)
+StaysOn settings = OverTables settings (λ desk after. after ≡ desk)
 
 -- the step of a command on the desk that they stand for, and the reply with what came of it
 abbrev pub IsDoneOn : Settings → Ask → Bool → List ℕ → State → State → Type 0
 IsDoneOn settings ask head_only bytes =
-    LeadsOn settings (λ desk after. IsDone settings ask head_only desk bytes after)
+    OverTables settings (λ desk after. IsDone settings ask head_only desk bytes after)
 
 -- a message that was left out: where it asks for no command, all tables are as they were
 abbrev pub LeavesOn : Settings → Asked → State → State → Type 0
-LeavesOn settings (Err unasked) old new = Spares old new
+LeavesOn settings (Err unasked) old new = LeavesTables old new
 LeavesOn settings (Ok asked) old new = StaysOn settings old new
 
 -- what a message asks for was done; or it asks for no command, the reply tells why, and all tables
 -- are as they were
 abbrev pub CommandStepsOn : Settings → ℕ → Message → Asked → List ℕ → State → State → Type 0
 CommandStepsOn settings at message (Err unasked) bytes old new =
-    (bytes ≡ bytes_of (unasked_reply (is_head message) unasked)) × Spares old new
+    (bytes ≡ bytes_of (unasked_reply (is_head message) unasked)) × LeavesTables old new
 CommandStepsOn settings at message (Ok asked) bytes old new =
     IsDoneOn settings (ask_by at asked.0 asked.1) (is_head message) bytes old new
 
@@ -93,7 +93,7 @@ MessageStepsOn settings at message bytes old new =
 
 -- the same of what was read: a fault leaves all tables as they were
 abbrev pub ReadStepsOn : Settings → ℕ → Result Message WireFault → List ℕ → State → State → Type 0
-ReadStepsOn settings at (Err fault) bytes old new = TellsFault fault bytes × Spares old new
+ReadStepsOn settings at (Err fault) bytes old new = TellsFault fault bytes × LeavesTables old new
 ReadStepsOn settings at (Ok message) bytes old new =
     MessageStepsOn settings at message bytes old new
 

@@ -104,7 +104,7 @@ fn put(alloc: Global, reply: Reply, room: &mut Room) -> Result<(), AllocError>
     if room.whole {
         put_whole(alloc, &reply, room)
     } else {
-        put_apart(reply, room);
+        put_body_apart(reply, room);
         Ok(())
     }
 }
@@ -127,7 +127,7 @@ fn put_whole(alloc: Global, reply: &Reply, room: &mut Room) -> Result<(), AllocE
 }
 
 /// Puts the head of a reply into the room, and behind it the body as it is, if that goes out.
-fn put_apart(reply: Reply, room: &mut Room)
+fn put_body_apart(reply: Reply, room: &mut Room)
     requires reply { IsReply reply }
     requires empty { IsEmpty room.old }
     requires length { length reply.body < 2 ^ 64 }

@@ -8,7 +8,7 @@ ghost use Rattle.service_core.specs.Seen.{settings_of, tables_of};
 ghost use Rattle.wire_core.specs.Counted.{TellsReads};
 ghost use Rattle.wire_core.specs.Fault.{is_unread, tells_failed_read, tells_failed_write};
 ghost use Rattle.wire_core.specs.Rooms.{IsEmpty, IsWhole};
-ghost use Rattle.wire_core.specs.Served.{GivesRoom, IsAnswer, IsSent, IsServed, IsServedBy};
+ghost use Rattle.wire_core.specs.Served.{HasRoomOrLeft, IsAnswer, IsSent, IsServed, IsServedBy};
 ghost use Rattle.wire_core.specs.Served.{TellsRead, reply_in};
 
 use crate::fault::{ServeFault, Unanswered};
@@ -128,7 +128,7 @@ pub(crate) fn answer_counted<R: Read, S: Backend>(
     ensures answered { IsAnswer (settings_of S.Store desk.old) moment
         (left_in R.remaining reader.old) (left_in R.remaining reader.new) (reply_in result)
         (tables_of S.Store desk.old) (tables_of S.Store desk.new) }
-    ensures given { GivesRoom whole result desk.old desk.new }
+    ensures given { HasRoomOrLeft whole result desk.old desk.new }
     ensures left { LeavesDesk S.Store desk.old desk.new }
 {
     match Room::new(alloc, whole) {
@@ -152,7 +152,7 @@ fn answer_in_room<R: Read, S: Backend>(
     ensures answered { IsAnswer (settings_of S.Store desk.old) moment
         (left_in R.remaining reader.old) (left_in R.remaining reader.new) (reply_in result)
         (tables_of S.Store desk.old) (tables_of S.Store desk.new) }
-    ensures given { GivesRoom room.whole result desk.old desk.new }
+    ensures given { HasRoomOrLeft room.whole result desk.old desk.new }
     ensures left { LeavesDesk S.Store desk.old desk.new }
 {
     let mut room = room;

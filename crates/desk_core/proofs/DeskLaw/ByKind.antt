@@ -18,7 +18,7 @@ use Rattle.desk_model.specs.Links.{has_link, link}
 use Rattle.desk_model.specs.Plan.{Call, Plan, Reads, OnQueue, OnRequest, Nothing, Stays}
 use Rattle.desk_model.specs.Plan.{Dependencies, Another, another_shown, besides_on, change_by, change_of_request}
 use Rattle.desk_model.specs.Plan.{conditions_by, conditions_of, conditions_of_words, is_missing}
-use Rattle.desk_model.specs.Plan.{is_reading, on_shown, seen_by}
+use Rattle.desk_model.specs.Plan.{is_reading, on_shown, facts_of_plan}
 use Rattle.desk_model.specs.Step.{call, facts_of, guard}
 use Rattle.desk_model.specs.declared.change.Change.{Change}
 use Rattle.desk_model.specs.declared.command.Command.{Command}
@@ -71,10 +71,10 @@ on_request P call desk id (Some r) asks change there meets free =
 meets_by : (P : Desk → Change → Type 0) (call : Call) (plan : Plan) (desk : Desk)
     → (is_reading plan ≡ true → P desk no_change)
     → MeetsAt call P desk plan
-    → first_holding (conditions_of_words call plan ++ conditions_by call (seen_by plan desk) plan)
+    → first_holding (conditions_of_words call plan ++ conditions_by call (facts_of_plan plan desk) plan)
     ≡ None
-    → first_holding (conditions_by call (seen_by plan desk) plan) ≡ None
-    → P desk (change_by call (seen_by plan desk) plan)
+    → first_holding (conditions_by call (facts_of_plan plan desk) plan) ≡ None
+    → P desk (change_by call (facts_of_plan plan desk) plan)
 meets_by P call (Reads topic answer) desk nothing meets all free = nothing refl
 meets_by P call (OnQueue name beforehand conditions change) desk nothing meets all free =
     meets (none_holds (beforehand call ++ conditions call (facts_on_queue desk name)) all)
@@ -101,16 +101,16 @@ meets_by P call (OnRequest id (Another kind other) bad conditions change) desk n
 pub by_plan_at : (P : Desk → Change → Type 0) (call : Call) (plan : Plan) (desk : Desk)
     → (is_reading plan ≡ true → P desk no_change)
     → MeetsAt call P desk plan
-    → first_holding (conditions_of call (seen_by plan desk) plan) ≡ None
-    → P desk (change_by call (seen_by plan desk) plan)
+    → first_holding (conditions_of call (facts_of_plan plan desk) plan) ≡ None
+    → P desk (change_by call (facts_of_plan plan desk) plan)
 by_plan_at P call plan desk nothing meets free =
-    let passes = plan_passes call (seen_by plan desk) plan free in
+    let passes = plan_passes call (facts_of_plan plan desk) plan free in
     meets_by P call plan desk nothing meets passes.0 passes.1
 
 pub by_plan : (P : Desk → Change → Type 0) (call : Call) (plan : Plan) (desk : Desk)
     → P desk no_change → Meets P desk plan
-    → first_holding (conditions_of call (seen_by plan desk) plan) ≡ None
-    → P desk (change_by call (seen_by plan desk) plan)
+    → first_holding (conditions_of call (facts_of_plan plan desk) plan) ≡ None
+    → P desk (change_by call (facts_of_plan plan desk) plan)
 by_plan P call plan desk nothing meets free =
     by_plan_at P call plan desk (λ reads. nothing) (meets call) free
 

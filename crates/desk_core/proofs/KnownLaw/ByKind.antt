@@ -36,7 +36,7 @@ use Rattle.desk_model.specs.Lifecycles.{has_given, has_status, is_allowed, is_cr
 use Rattle.desk_model.specs.Lifecycles.{first_status, reopening_of}
 use Rattle.desk_model.specs.Names.{in_order, text_order, with_name}
 use Rattle.desk_model.specs.Plan.{Call, Stays, besides_on, change_by}
-use Rattle.desk_model.specs.Plan.{conditions_by, conditions_of_words, seen_by}
+use Rattle.desk_model.specs.Plan.{conditions_by, conditions_of_words, facts_of_plan}
 use Rattle.desk_model.specs.Step.{call, facts_of, guard}
 use Rattle.desk_model.specs.declared.change.Change.{Change}
 use Rattle.desk_model.specs.declared.command.Command.{Command}
@@ -391,7 +391,7 @@ change_brings s at caller command desk sound queues all free =
     holding (knows s caller)
     (passed (UnknownCaller, not (knows s caller))
     ((BadMoment, not (is_moment at))
-    ∷ (conditions_of_words asks plan ++ conditions_by asks (seen_by plan desk) plan)) free).0 in
+    ∷ (conditions_of_words asks plan ++ conditions_by asks (facts_of_plan plan desk) plan)) free).0 in
     record {
       queue = by_plan_at (λ d change. KnowsQueue s change.queue) asks plan desk (λ reads. tt)
           (opens asks desk command) free;

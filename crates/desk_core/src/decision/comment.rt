@@ -3,14 +3,14 @@
 ghost use Rattle.std.specs.Prelude.{◌+◌, ◌^◌, ◌<◌, OnOk};
 ghost use Rattle.desk_model.specs.Commands.Comment as comment;
 ghost use Rattle.desk_model.specs.Plan.{Nothing};
-ghost use Rattle.desk_core.specs.Context.{DecidesOn, PassesOn};
+ghost use Rattle.desk_core.specs.DecisionContext.{DecidesOn, PassesOn};
 
-use crate::decision::Context;
+use crate::decision::DecisionContext;
 use desk_model::{Change, EntryKind, Refusal, SeenRequest};
 use rights_core::right;
 use text_core::Text;
 
-impl Context<'_> {
+impl DecisionContext<'_> {
     /// Comments on the request.
     pub(super) fn comment(&self, text: &Text) -> Result<Change, Refusal>
         ensures { DecidesOn result Nothing comment.conditions (comment.change text.now) self.now }

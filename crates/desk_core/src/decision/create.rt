@@ -5,9 +5,9 @@ ghost use Rattle.std.specs.List.{list_all};
 ghost use Rattle.settings_core.specs.Settings.{knows};
 ghost use Rattle.desk_model.specs.Commands.Create as create;
 ghost use Rattle.desk_model.specs.Condition.{Passes};
-ghost use Rattle.desk_core.specs.Context.{call_of, DecidesOnQueue};
+ghost use Rattle.desk_core.specs.DecisionContext.{call_of, DecidesOnQueue};
 
-use crate::decision::Context;
+use crate::decision::DecisionContext;
 use desk_model::lifecycles::{first_status, has_given, is_creatable, lifecycle_of};
 use desk_model::{
     Change, Entry, EntryKind, Refusal, RequestRow, Turn, WatchRole, Watcher, in_byte_order,
@@ -16,7 +16,7 @@ use rights_core::right;
 use std::alloc::{AllocError, Global};
 use text_core::{Sequence, Text, Texts};
 
-impl Context<'_> {
+impl DecisionContext<'_> {
     /// Files a request.
     pub(super) fn create(
         &self,

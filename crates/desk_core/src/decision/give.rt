@@ -3,14 +3,14 @@
 ghost use Rattle.std.specs.Prelude.{◌≡◌, ◌+◌, ◌^◌, ◌<◌, OnOk};
 ghost use Rattle.desk_model.specs.Commands.Give as give;
 ghost use Rattle.desk_model.specs.Plan.{Stays};
-ghost use Rattle.desk_core.specs.Context.{call_of, DecidesOn, PassesOn};
+ghost use Rattle.desk_core.specs.DecisionContext.{call_of, DecidesOn, PassesOn};
 
-use crate::decision::Context;
+use crate::decision::DecisionContext;
 use desk_model::{Change, Refusal, SeenRequest};
 use rights_core::right;
 use text_core::Text;
 
-impl Context<'_> {
+impl DecisionContext<'_> {
     /// Makes a person the owner of a request.
     pub(super) fn give(&self, person: &Text) -> Result<Change, Refusal>
         ensures { DecidesOn result Stays

@@ -3,15 +3,15 @@
 ghost use Rattle.std.specs.Prelude.{◌≡◌, ◌+◌, ◌^◌, ◌<◌, IfOk, OnOk, decimal};
 ghost use Rattle.desk_model.specs.Commands.Link as link;
 ghost use Rattle.desk_model.specs.Plan.{Another};
-ghost use Rattle.desk_core.specs.Context.{DecidesOn, PassesOn};
+ghost use Rattle.desk_core.specs.DecisionContext.{DecidesOn, PassesOn};
 
-use crate::decision::Context;
+use crate::decision::DecisionContext;
 use desk_model::{Change, EntryKind, LinkKind, LinkRow, Refusal, SeenRequest};
 use rights_core::right;
 use std::alloc::{AllocError, Global};
 use text_core::Text;
 
-impl Context<'_> {
+impl DecisionContext<'_> {
     /// Links the request with another one.
     pub(super) fn link(&self, kind: LinkKind, other: u32) -> Result<Change, Refusal>
         ensures { DecidesOn result (Another kind other)

@@ -3,9 +3,9 @@
 ghost use Rattle.std.specs.Prelude.{◌≡◌};
 ghost use Rattle.desk_model.specs.Commands.OpenQueue as open_queue;
 ghost use Rattle.desk_model.specs.Condition.{Passes};
-ghost use Rattle.desk_core.specs.Context.{call_of, DecidesOnQueue};
+ghost use Rattle.desk_core.specs.DecisionContext.{call_of, DecidesOnQueue};
 
-use crate::decision::Context;
+use crate::decision::DecisionContext;
 use desk_model::{Change, QueueRow, Refusal};
 use rights_core::right;
 use text_core::Text;
@@ -13,7 +13,7 @@ use text_core::Text;
 /// The most queues that a desk opens.
 const MAX_QUEUES: u32 = 1_000;
 
-impl Context<'_> {
+impl DecisionContext<'_> {
     /// Opens a queue.
     pub(super) fn open_queue(
         &self,

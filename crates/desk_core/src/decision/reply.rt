@@ -5,9 +5,9 @@ ghost use Rattle.std.specs.Option.{option_map};
 ghost use Rattle.desk_model.specs.Change.{row_in_status};
 ghost use Rattle.desk_model.specs.Commands.Reply as reply;
 ghost use Rattle.desk_model.specs.Plan.{Stays};
-ghost use Rattle.desk_core.specs.Context.{call_of, DecidesOn, PassesOn};
+ghost use Rattle.desk_core.specs.DecisionContext.{call_of, DecidesOn, PassesOn};
 
-use crate::decision::Context;
+use crate::decision::DecisionContext;
 use desk_model::lifecycles::{lifecycle_of, reply_target};
 use desk_model::{Change, Entry, EntryKind, Refusal, RequestRow, SeenRequest};
 use lifecycle_core::Lifecycle;
@@ -15,7 +15,7 @@ use rights_core::right;
 use std::alloc::AllocError;
 use text_core::{Sequence, Text};
 
-impl<'c> Context<'c> {
+impl<'c> DecisionContext<'c> {
     /// Replies to the request: the reply may open it again, and the turn passes.
     pub(super) fn reply(&self, text: &Text) -> Result<Change, Refusal>
         ensures { DecidesOn result Stays reply.conditions (reply.change text.now) self.now }

@@ -3,16 +3,16 @@
 ghost use Rattle.std.specs.Prelude.{◌≡◌, ◌+◌, ◌^◌, ◌<◌, IfOk, OnOk, None};
 ghost use Rattle.desk_model.specs.Commands.SetLevel as set_level;
 ghost use Rattle.desk_model.specs.Plan.{Stays};
-ghost use Rattle.desk_core.specs.Context.{DecidesOn, PassesOn};
+ghost use Rattle.desk_core.specs.DecisionContext.{DecidesOn, PassesOn};
 
 use crate::beforehand::knows_level;
-use crate::decision::Context;
+use crate::decision::DecisionContext;
 use desk_model::{Change, EntryKind, Refusal, RequestRow, SeenRequest};
 use rights_core::right;
 use std::alloc::AllocError;
 use text_core::Text;
 
-impl Context<'_> {
+impl DecisionContext<'_> {
     /// Gives the request another level, or none.
     pub(super) fn set_level(&self, level: &Option<Text>) -> Result<Change, Refusal>
         ensures { DecidesOn result Stays

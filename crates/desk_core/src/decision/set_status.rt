@@ -4,15 +4,15 @@ ghost use Rattle.std.specs.Prelude.{◌≡◌, ◌+◌, ◌^◌, ◌<◌, true, 
 ghost use Rattle.desk_model.specs.Commands.SetStatus as set_status;
 ghost use Rattle.desk_model.specs.Entries as entries;
 ghost use Rattle.desk_model.specs.Plan.{Dependencies};
-ghost use Rattle.desk_core.specs.Context.{call_of, DecidesOn, PassesOn};
+ghost use Rattle.desk_core.specs.DecisionContext.{call_of, DecidesOn, PassesOn};
 
-use crate::decision::Context;
+use crate::decision::DecisionContext;
 use desk_model::lifecycles::{has_status, is_allowed, is_inactive, lifecycle_of, right_of};
 use desk_model::{Change, Entry, EntryKind, Refusal, SeenRequest};
 use std::alloc::AllocError;
 use text_core::Text;
 
-impl Context<'_> {
+impl DecisionContext<'_> {
     /// Moves the request to another status.
     pub(super) fn set_status(&self, status: &Text) -> Result<Change, Refusal>
         ensures { DecidesOn result Dependencies

@@ -3,13 +3,13 @@
 ghost use Rattle.std.specs.Prelude.{◌+◌, ◌^◌, ◌<◌, OnOk};
 ghost use Rattle.desk_model.specs.Commands.Steal as steal;
 ghost use Rattle.desk_model.specs.Plan.{Stays};
-ghost use Rattle.desk_core.specs.Context.{DecidesOn, PassesOn};
+ghost use Rattle.desk_core.specs.DecisionContext.{DecidesOn, PassesOn};
 
-use crate::decision::Context;
+use crate::decision::DecisionContext;
 use desk_model::{Change, Refusal, SeenRequest};
 use rights_core::right;
 
-impl Context<'_> {
+impl DecisionContext<'_> {
     /// Makes the caller the owner of a request that another person owns.
     pub(super) fn steal(&self) -> Result<Change, Refusal>
         ensures { DecidesOn result Stays steal.conditions steal.change self.now }

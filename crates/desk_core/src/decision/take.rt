@@ -5,14 +5,14 @@ ghost use Rattle.std.specs.Option.{option_map};
 ghost use Rattle.desk_model.specs.Commands.Take as take;
 ghost use Rattle.desk_model.specs.Entries as entries;
 ghost use Rattle.desk_model.specs.Plan.{Stays};
-ghost use Rattle.desk_core.specs.Context.{call_of, DecidesOn, PassesOn};
+ghost use Rattle.desk_core.specs.DecisionContext.{call_of, DecidesOn, PassesOn};
 
-use crate::decision::Context;
+use crate::decision::DecisionContext;
 use desk_model::{Change, EntryKind, Refusal, SeenRequest};
 use rights_core::right;
 use std::alloc::AllocError;
 
-impl Context<'_> {
+impl DecisionContext<'_> {
     /// Makes the caller the owner of a request that nobody owns.
     pub(super) fn take(&self) -> Result<Change, Refusal>
         ensures { DecidesOn result Stays take.conditions take.change self.now }

@@ -3,14 +3,14 @@
 ghost use Rattle.std.specs.Prelude.{◌+◌, ◌^◌, ◌<◌, OnOk};
 ghost use Rattle.desk_model.specs.Commands.Unlink as unlink;
 ghost use Rattle.desk_model.specs.Plan.{Another};
-ghost use Rattle.desk_core.specs.Context.{DecidesOn, PassesOn};
+ghost use Rattle.desk_core.specs.DecisionContext.{DecidesOn, PassesOn};
 
-use crate::decision::Context;
+use crate::decision::DecisionContext;
 use crate::decision::link::{in_digits, kind_word};
 use desk_model::{Change, EntryKind, LinkKind, LinkRow, Refusal, SeenRequest};
 use rights_core::right;
 
-impl Context<'_> {
+impl DecisionContext<'_> {
     /// Takes away the link of the request with another one.
     pub(super) fn unlink(&self, kind: LinkKind, other: u32) -> Result<Change, Refusal>
         ensures { DecidesOn result (Another kind other)

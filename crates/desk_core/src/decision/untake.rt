@@ -3,12 +3,12 @@
 ghost use Rattle.std.specs.Prelude.{◌+◌, ◌^◌, ◌<◌, OnOk};
 ghost use Rattle.desk_model.specs.Commands.Untake as untake;
 ghost use Rattle.desk_model.specs.Plan.{Stays};
-ghost use Rattle.desk_core.specs.Context.{DecidesOn, PassesOn};
+ghost use Rattle.desk_core.specs.DecisionContext.{DecidesOn, PassesOn};
 
-use crate::decision::Context;
+use crate::decision::DecisionContext;
 use desk_model::{Change, Refusal, SeenRequest};
 
-impl Context<'_> {
+impl DecisionContext<'_> {
     /// Leaves a request that the caller owns without an owner.
     pub(super) fn untake(&self) -> Result<Change, Refusal>
         ensures { DecidesOn result Stays untake.conditions untake.change self.now }

@@ -3,15 +3,15 @@
 ghost use Rattle.std.specs.Prelude.{◌+◌, ◌^◌, ◌<◌, OnOk};
 ghost use Rattle.desk_model.specs.Commands.Unwatch as unwatch;
 ghost use Rattle.desk_model.specs.Plan.{Nothing};
-ghost use Rattle.desk_core.specs.Context.{DecidesOn, PassesOn};
+ghost use Rattle.desk_core.specs.DecisionContext.{DecidesOn, PassesOn};
 
-use crate::decision::Context;
+use crate::decision::DecisionContext;
 use crate::decision::watch::{one_watcher, persons_in, role_word};
 use desk_model::{Change, EntryKind, Refusal, SeenRequest, WatchRole};
 use rights_core::right;
 use text_core::Text;
 
-impl Context<'_> {
+impl DecisionContext<'_> {
     /// Takes a person out of a role on the request.
     pub(super) fn unwatch(&self, role: WatchRole, person: &Text) -> Result<Change, Refusal>
         ensures { DecidesOn result Nothing

@@ -4,15 +4,15 @@ ghost use Rattle.std.specs.Prelude.{◌≡◌, ◌+◌, ◌^◌, ◌<◌, [], �
 ghost use Rattle.desk_model.specs.Commands.Watch as watch;
 ghost use Rattle.desk_model.specs.Watchers as watchers;
 ghost use Rattle.desk_model.specs.Plan.{Nothing};
-ghost use Rattle.desk_core.specs.Context.{call_of, DecidesOn, PassesOn};
+ghost use Rattle.desk_core.specs.DecisionContext.{call_of, DecidesOn, PassesOn};
 
-use crate::decision::Context;
+use crate::decision::DecisionContext;
 use desk_model::{Change, EntryKind, Refusal, SeenRequest, WatchRole, Watcher};
 use rights_core::right;
 use std::alloc::{AllocError, Global};
 use text_core::{Sequence, Text, Texts};
 
-impl Context<'_> {
+impl DecisionContext<'_> {
     /// Puts a person into a role on the request.
     pub(super) fn watch(&self, role: WatchRole, person: &Text) -> Result<Change, Refusal>
         ensures { DecidesOn result Nothing

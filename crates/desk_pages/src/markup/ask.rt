@@ -17,6 +17,11 @@ pub(crate) const ASK: &str = r#"<form class="sheet" method="post" action="/desk/
 <select id="status" name="status">
 ]"#;
 
+/// The status that was chosen before.
+pub(crate) const CHOSEN: &str = r#"<option selected>{}</option>
+<option value="">the usual one</option>
+"#;
+
 /// Whether there were statuses to choose from.
 pub(crate) const ASK_END: &str = r#"[</select>
 ]<button>File it</button>

@@ -5,7 +5,9 @@ pub(crate) const CHANGE_TOP: &str = r#"<details class="change"[ open]>
 <summary>Change it</summary>
 "#;
 
-/// And the end of the page's content.
 pub(crate) const CHANGE_END: &str = r#"</details>
-</div>
+"#;
+
+/// The end of the page's content.
+pub(crate) const CONTENT_END: &str = r#"</div>
 "#;

@@ -7,11 +7,13 @@ pub(crate) const LEVEL_TOP: &str = r#"<form method="post" action="/desk/requests
 <option value="">none</option>
 "#;
 
-/// The number of the request four times, and before its last time what a number is.
-pub(crate) const FIELDS_END: &str = r#"</select>
+pub(crate) const LEVEL_END: &str = r#"</select>
 <button>Set</button>
 </form>
-<form method="post" action="/desk/requests/{}/watch">
+"#;
+
+/// The number of the request, twice.
+pub(crate) const WATCHING: &str = r#"<form method="post" action="/desk/requests/{}/watch">
 <label for="role">Role</label>
 <select id="role" name="role"><option>requestor</option><option>cc</option><option>admincc</option></select>
 <label for="who">Person</label>
@@ -19,7 +21,10 @@ pub(crate) const FIELDS_END: &str = r#"</select>
 <button>Put in</button>
 <button formaction="/desk/requests/{}/unwatch">Take out</button>
 </form>
-<form method="post" action="/desk/requests/{}/link">
+"#;
+
+/// The number of the request, what a number is, and the number of the request.
+pub(crate) const LINKING: &str = r#"<form method="post" action="/desk/requests/{}/link">
 <label for="kind">Link</label>
 <select id="kind" name="kind"><option>DependsOn</option><option>DependedOnBy</option><option>MemberOf</option><option>HasMember</option><option>RefersTo</option><option>ReferredToBy</option></select>
 <label for="other">Request</label>

@@ -17,10 +17,10 @@ pub(crate) const QUEUES_TOP: &str = r#"<table class="queues">
 <tbody>
 "#;
 
-/// The name of the queue twice, how much is open, whether anything is late, and how much, its
-/// level, and its name twice.
+/// The name of the queue three times, how much is open, whether anything is late, its name and how
+/// much, its level, and its name twice.
 pub(crate) const QUEUE_ROW: &str =
-    r#"<tr><th scope="row"><a href="/desk/queues/{}">{}</a></th><td>{}</td><td[ class="late"]>{}</td><td>{}</td><td><a href="/desk/queues/{}/new">New request<span class="off"> in {}</span></a></td></tr>
+    r#"<tr><th scope="row"><a href="/desk/queues/{}">{}</a></th><td><a href="/desk/queues/{}">{}</a></td><td[ class="late"]><a href="/desk/find?queue={}&amp;late=yes&amp;order=due">{}</a></td><td>{}</td><td><a href="/desk/queues/{}/new">New request<span class="off"> in {}</span></a></td></tr>
 "#;
 
 pub(crate) const QUEUES_END: &str = r#"</tbody>

@@ -1,8 +1,8 @@
 //! What is said of a refusal.
 
-/// Whether the request is there; its number, twice.
-pub(crate) const CRUMB: &str = r#"[<p class="crumb"><a href="/desk/requests/{}">Request {}</a></p>
-]"#;
+/// The number of the request, twice.
+pub(crate) const CRUMB: &str = r#"<p class="crumb"><a href="/desk/requests/{}">Request {}</a></p>
+"#;
 
 /// The heading; what is said before the right, the right, and what is said after it; the number
 /// and the name of the refusal, whether a right is lacking, and the right.
@@ -17,11 +17,10 @@ pub(crate) const TYPED_END: &str = r#"
 </div>
 "#;
 
-/// Whether the request is there, or is not; its number, twice.
+/// The number of the request, twice.
 pub(crate) const TO_REQUEST: &str =
-    r#"[<p><a class="button" href="/desk/requests/{}">Back to request {}</a></p>
-][<p><a class="button" href="/">To the queues</a></p>
-]"#;
+    r#"<p><a class="button" href="/desk/requests/{}">Back to request {}</a></p>
+"#;
 
 /// Whether the queue is there, or is not; its name, twice.
 pub(crate) const TO_QUEUE: &str = r#"[<p><a class="button" href="/desk/queues/{}">Back to {}</a></p>

@@ -9,13 +9,17 @@ pub(crate) const REQUEST_TOP: &str =
 pub(crate) const REPLY_TOP: &str = r#"<div class="write" id="reply">
 "#;
 
+/// Whether nothing else may be written, and whether something else may.
 pub(crate) const COMMENT_TOP: &str = r#"
-<details>
-<summary>Comment instead</summary>
+<details[ open]>
+<summary>Comment[ instead]</summary>
 "#;
 
-pub(crate) const WRITING_END: &str = r#"
-</details>
+pub(crate) const COMMENT_END: &str = r#"
+</details>"#;
+
+/// Whether nothing may be written.
+pub(crate) const WRITING_END: &str = r#"[<p>You may neither reply here nor comment.</p>]
 </div>
 </section>
 "#;

@@ -19,7 +19,7 @@ pub(crate) const ASKING: &str = r#"<small>{}</small> "#;
 pub(crate) const ROW_CELLS: &str =
     r#"</th><td>{}</td><td><span class="state {}">{}</span></td><td class="owner">{}</td><td>"#;
 
-/// Whether it is late; the day and the time of its last entry, twice.
+/// Whether it is late, and for how long; the day and the time of its last entry, twice.
 pub(crate) const ROW_END: &str =
-    r#"[ <strong>late</strong>]</td><td><time datetime="{}T{}Z">{} {}</time></td></tr>
+    r#"[ <strong>{} late</strong>]</td><td><time datetime="{}T{}Z">{} {}</time></td></tr>
 "#;

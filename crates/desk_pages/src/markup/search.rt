@@ -5,41 +5,30 @@
 /// last day; which order.
 pub(crate) const SEARCH: &str = r#"<details[ open]>
 <summary>Search</summary>
-<form class="sheet" action="/desk/find">
-<label for="words">Words</label>
-<input id="words" name="words" autocomplete="off" value="{}">
-<p>Each of them stands in the subject, in large or small letters.</p>
-<label><input type="checkbox" name="replies" value="yes"[ checked]> or in a text of its history</label>
-<label for="queue">Queue</label>
-<input id="queue" name="queue" autocapitalize="none" spellcheck="false" autocomplete="off" value="{}">
-<label for="state">State</label>
-<select id="state" name="state">
+<form class="sheet fields" action="/desk/find">
+<p><label for="words">Words</label><input id="words" name="words" type="search" autocomplete="off" dir="auto" aria-describedby="how" value="{}"></p>
+<p class="tick"><input id="replies" name="replies" type="checkbox" value="yes"[ checked]><label for="replies">or in a text of its history</label></p>
+<p><label for="queue">Queue</label><input id="queue" name="queue" autocapitalize="none" spellcheck="false" autocomplete="off" value="{}"></p>
+<p><label for="state">State</label><select id="state" name="state">
 <option value=""[ selected]>any</option>
 <option value="open"[ selected]>open</option>
 <option value="closed"[ selected]>closed</option>
-</select>
-<label for="status">or one status</label>
-<input id="status" name="status" autocapitalize="none" spellcheck="false" autocomplete="off" value="{}">
-<label for="owner">Owner</label>
-<input id="owner" name="owner" autocapitalize="none" spellcheck="false" autocomplete="off" value="{}">
-<p>A name, Me or Nobody.</p>
-<label for="requestor">Who asked</label>
-<input id="requestor" name="requestor" autocapitalize="none" spellcheck="false" autocomplete="off" value="{}">
-<p>A name or Me.</p>
-<label><input type="checkbox" name="late" value="yes"[ checked]> only what is late</label>
-<label for="from">Filed from</label>
-<input id="from" name="from" type="date" value="{}">
-<label for="to">Filed to</label>
-<input id="to" name="to" type="date" value="{}">
-<label for="order">Order</label>
-<select id="order" name="order">
+</select></p>
+<p><label for="status">or one status</label><input id="status" name="status" autocapitalize="none" spellcheck="false" autocomplete="off" value="{}"></p>
+<p><label for="owner">Owner</label><input id="owner" name="owner" autocapitalize="none" spellcheck="false" autocomplete="off" value="{}"></p>
+<p><label for="requestor">Who asked</label><input id="requestor" name="requestor" autocapitalize="none" spellcheck="false" autocomplete="off" value="{}"></p>
+<p class="tick"><input id="late" name="late" type="checkbox" value="yes"[ checked]><label for="late">only what is late</label></p>
+<p><label for="from">Filed from</label><input id="from" name="from" type="date" value="{}"></p>
+<p><label for="to">Filed to</label><input id="to" name="to" type="date" value="{}"></p>
+<p><label for="order">Order</label><select id="order" name="order">
 <option value="newest"[ selected]>newest first</option>
 <option value="oldest"[ selected]>oldest first</option>
 <option value="due"[ selected]>due first</option>
 <option value="due-last"[ selected]>due last</option>
 <option value="active"[ selected]>last entry first</option>
 <option value="quiet"[ selected]>last entry last</option>
-</select>
+</select></p>
+<p class="how" id="how">Each of the words stands in the subject, in large or small letters. An owner is a name, Me or Nobody; who asked is a name or Me.</p>
 <button>Search</button>
 </form>
 </details>

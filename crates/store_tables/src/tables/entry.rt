@@ -12,7 +12,7 @@ ghost use Rattle.store_tables.specs.Readings.{MismatchesInEntries, Reads, TestsE
 ghost use Rattle.store_tables.specs.Picked.{AreOrdered, IsGreatest};
 ghost use Rattle.store_tables.specs.Seen.{seen};
 ghost use Rattle.sqlite.specs.Held.{state};
-ghost use Rattle.store_tables.specs.Calls.{Inside, Looks, Does};
+ghost use Rattle.store_tables.specs.Calls.{AnswersInTransaction, QueryInTransaction, StatementChanges};
 ghost use Rattle.store_tables.specs.Contents.{add_entry};
 
 use crate::columns::{minute, minute_at, number, number_at, text_at, words};
@@ -95,12 +95,12 @@ pub fn entries_inside<S: Alter>(
     id: u32,
 ) -> Result<Vec<Entry>, StoreFault>
     ensures same_reference { tx.new.conn.ghost_name ≡ tx.old.conn.ghost_name }
-    ensures listed { Inside (λ c xs.
+    ensures listed { AnswersInTransaction (λ c xs.
         AreOrdered by_number (filter (tells_of id) c.entries) xs.items)
         (state S.Store tx.old.conn.now) (state S.Store tx.new.conn.now) result }
     ensures mismatch { MismatchesInEntries
         (state S.Store tx.old.conn.now) (state S.Store tx.new.conn.now) result }
-    ensures looks { Looks
+    ensures looks { QueryInTransaction
         (state S.Store tx.old.conn.now) (state S.Store tx.new.conn.now) result }
 {
     select_all(alloc, tx, ENTRIES_OF, &[number(id)])

@@ -4,7 +4,7 @@ ghost use Rattle.std.specs.Prelude.{⊤};
 ghost use Rattle.sqlite.specs.Order.{column};
 ghost use Rattle.sqlite_rules.specs.Lists.{Has};
 ghost use Rattle.store_tables.specs.Values.{IsNumberRow, count_value};
-ghost use Rattle.store_tables.specs.Calls.{Answers, Does, Runs, Spares, shut};
+ghost use Rattle.store_tables.specs.Calls.{Answers, StatementChanges, StatementRuns, LeavesTables, shut};
 ghost use Rattle.store_tables.specs.Making.{AreOfMeta, IsOfMeta, ReadsMeta, RefusesBlank};
 ghost use Rattle.store_tables.specs.Making.{LacksVersion, ReadsVersion, ShowsVersion};
 ghost use Rattle.store_tables.specs.declared.fault.StoreFault.{StoreFault};
@@ -12,7 +12,7 @@ ghost use Rattle.store_tables.specs.Seen.{seen};
 ghost use Rattle.sqlite.specs.Held.{state};
 ghost use Rattle.sqlite.specs.State.{HasCleanDisk};
 ghost use Rattle.store_tables.specs.Contents.{Contents, set_version as with_version};
-ghost use Rattle.store_tables.specs.Stands.{GoesOn, HoldsNow};
+ghost use Rattle.store_tables.specs.Stands.{InTransaction, HoldsNow};
 
 use crate::columns::number_at;
 use crate::fault::StoreFault;
@@ -56,7 +56,7 @@ fn version_in(rows: &[Row]) -> Result<Option<u32>, StoreFault>
 fn rows_version<S: Alter>(tables: &mut Tables<S>) -> Result<Vec<Row>, StoreFault>
     ensures shown { Answers (λ c rows. ShowsVersion c.version rows.items)
         (seen S.Store tables.old) (seen S.Store tables.new) result }
-    ensures kept { Spares (seen S.Store tables.old) (seen S.Store tables.new) }
+    ensures kept { LeavesTables (seen S.Store tables.old) (seen S.Store tables.new) }
     ensures blank { RefusesBlank (seen S.Store tables.old) (seen S.Store tables.new) result }
     ensures meta { ReadsMeta (λ s rows. AreOfMeta s rows.items)
         (seen S.Store tables.old) (seen S.Store tables.new) result }
@@ -71,7 +71,7 @@ fn rows_version<S: Alter>(tables: &mut Tables<S>) -> Result<Vec<Row>, StoreFault
 pub fn version<S: Alter>(tables: &mut Tables<S>) -> Result<u32, StoreFault>
     ensures told { Answers (λ c n. n ≡ c.version)
         (seen S.Store tables.old) (seen S.Store tables.new) result }
-    ensures kept { Spares (seen S.Store tables.old) (seen S.Store tables.new) }
+    ensures kept { LeavesTables (seen S.Store tables.old) (seen S.Store tables.new) }
     ensures blank { RefusesBlank (seen S.Store tables.old) (seen S.Store tables.new) result }
     ensures meta { ReadsMeta IsOfMeta
         (seen S.Store tables.old) (seen S.Store tables.new) result }
@@ -100,9 +100,9 @@ pub fn add_version<S: Alter>(tx: &mut Transaction<'_, S>) -> Result<(), StoreFau
     ensures same_reference { tx.new.conn.ghost_name ≡ tx.old.conn.ghost_name }
     ensures numbered { (c : Contents) → LacksVersion c (state S.Store tx.old.conn.now) →
         OnOk result (HoldsNow c (state S.Store tx.new.conn.now)) }
-    ensures runs { Runs (λ done. ⊤)
+    ensures runs { StatementRuns (λ done. ⊤)
         (state S.Store tx.old.conn.now) (state S.Store tx.new.conn.now) result }
-    ensures goes_on { OnOk result (GoesOn (state S.Store tx.new.conn.now)) }
+    ensures goes_on { OnOk result (InTransaction (state S.Store tx.new.conn.now)) }
 {
     let _ = run(tx, "INSERT INTO meta (one, version) VALUES (1, 2)", &[])?;
     Ok(())
@@ -113,7 +113,7 @@ pub fn add_version<S: Alter>(tx: &mut Transaction<'_, S>) -> Result<(), StoreFau
 pub fn is_open<S: Alter>(tables: &mut Tables<S>) -> Result<bool, StoreFault>
     ensures live { HasCleanDisk (seen S.Store tables.new)
         → IfOk result (λ live. live ≡ (seen S.Store tables.old).is_open) }
-    ensures kept { Spares (seen S.Store tables.old) (seen S.Store tables.new) }
+    ensures kept { LeavesTables (seen S.Store tables.old) (seen S.Store tables.new) }
     ensures fault { IfErr result (λ e. e ≡ StoreFault.Refused) }
 {
     match tables.conn.query_all(VERSION, &[]) {
@@ -140,7 +140,7 @@ fn told_by(error: &Error) -> Result<bool, StoreFault>
 /// refuses it.
 pub fn set_version<S: Alter>(tx: &mut Transaction<'_, S>) -> Result<(), StoreFault>
     ensures same_reference { tx.new.conn.ghost_name ≡ tx.old.conn.ghost_name }
-    ensures set { Does (λ c. with_version c 2)
+    ensures set { StatementChanges (λ c. with_version c 2)
         (state S.Store tx.old.conn.now) (state S.Store tx.new.conn.now) result }
 {
     run_on_one(tx, "UPDATE meta SET version = 2", &[])

@@ -16,7 +16,7 @@ ghost use Rattle.store_tables.specs.Picked.{AreOrdered, IsGreatest};
 ghost use Rattle.store_tables.specs.Seen.{seen};
 ghost use Rattle.sqlite.specs.Held.{state};
 ghost use Rattle.sqlite.specs.Values.{bound};
-ghost use Rattle.store_tables.specs.Calls.{Does, Leaves, ReadsAlone, ReadsRows};
+ghost use Rattle.store_tables.specs.Calls.{StatementChanges, Leaves, ReadsAlone, ReadsRows};
 
 pub mod dated;
 pub mod numbers;
@@ -183,7 +183,7 @@ pub fn put_request<S: Alter>(
     due: Option<Minute>,
 ) -> Result<(), StoreFault>
     ensures same_reference { tx.new.conn.ghost_name ≡ tx.old.conn.ghost_name }
-    ensures put { Does (λ c. add_request c row.now due)
+    ensures put { StatementChanges (λ c. add_request c row.now due)
         (state S.Store tx.old.conn.now) (state S.Store tx.new.conn.now) result }
 {
     run_on_one(
@@ -202,7 +202,7 @@ pub fn set_request<S: Alter>(
     due: Option<Minute>,
 ) -> Result<(), StoreFault>
     ensures same_reference { tx.new.conn.ghost_name ≡ tx.old.conn.ghost_name }
-    ensures set { Does (λ c. with_row c row.now due)
+    ensures set { StatementChanges (λ c. with_row c row.now due)
         (state S.Store tx.old.conn.now) (state S.Store tx.new.conn.now) result }
 {
     run_on_one(

@@ -8,7 +8,7 @@ ghost use Rattle.store_tables.specs.Readings.{MismatchesInStays, Reads, TestsSta
 ghost use Rattle.store_tables.specs.Picked.{AreParts};
 ghost use Rattle.store_tables.specs.Seen.{seen};
 ghost use Rattle.sqlite.specs.Held.{state};
-ghost use Rattle.store_tables.specs.Calls.{Does};
+ghost use Rattle.store_tables.specs.Calls.{StatementChanges};
 ghost use Rattle.store_tables.specs.Contents.{add_stay, end_stay as with_stay_ended};
 ghost use Rattle.store_tables.specs.Stands.{OnlyStaysChange};
 
@@ -107,7 +107,7 @@ pub fn put_stay<S: Alter>(
     stay: &Stay,
 ) -> Result<(), StoreFault>
     ensures same_reference { tx.new.conn.ghost_name ≡ tx.old.conn.ghost_name }
-    ensures put { Does (λ c. add_stay c (stay_row id place stay.now))
+    ensures put { StatementChanges (λ c. add_stay c (stay_row id place stay.now))
         (state S.Store tx.old.conn.now) (state S.Store tx.new.conn.now) result }
     ensures beside { OnOk result
         (OnlyStaysChange (state S.Store tx.old.conn.now) (state S.Store tx.new.conn.now)) }
@@ -133,7 +133,7 @@ pub fn put_stays<S: Alter>(
     stays: &[Stay],
 ) -> Result<(), StoreFault>
     ensures same_reference { tx.new.conn.ghost_name ≡ tx.old.conn.ghost_name }
-    ensures put { Does (λ c. fold add_stay c (stay_rows id stays.now))
+    ensures put { StatementChanges (λ c. fold add_stay c (stay_rows id stays.now))
         (state S.Store tx.old.conn.now) (state S.Store tx.new.conn.now) result }
     ensures beside { OnOk result
         (OnlyStaysChange (state S.Store tx.old.conn.now) (state S.Store tx.new.conn.now)) }
@@ -158,7 +158,7 @@ pub fn end_stay<S: Alter>(
     until: Minute,
 ) -> Result<(), StoreFault>
     ensures same_reference { tx.new.conn.ghost_name ≡ tx.old.conn.ghost_name }
-    ensures ended { Does (λ c. with_stay_ended c id place until)
+    ensures ended { StatementChanges (λ c. with_stay_ended c id place until)
         (state S.Store tx.old.conn.now) (state S.Store tx.new.conn.now) result }
 {
     run_on_one(

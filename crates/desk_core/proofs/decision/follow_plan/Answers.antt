@@ -15,8 +15,8 @@ returns c =
     let command = c.args.command.now in
     let asked = call settings c.in-Some.moment caller in
     let same = moment_is (is_moment c.args.call.at) c.args.call.at c.in-Some.moment c.in-Some.ensures in
-    subst (λ (at : ℕ). FollowsPlan settings at caller facts command c.decide_dated.result) same
-    (decided_after asked facts (plan_of command) c.decide_dated.result
+    subst (λ (at : ℕ). FollowsPlan settings at caller facts command c.decide_with_due.result) same
+    (decided_after asked facts (plan_of command) c.decide_with_due.result
     (change_of asked facts command)
     (subst (λ (at : ℕ). refusal_beforehand settings at caller command ≡ None) (sym same) c.requires)
-    c.decide_dated.ensures)
+    c.decide_with_due.ensures)

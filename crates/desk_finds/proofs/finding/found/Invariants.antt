@@ -3,8 +3,8 @@ use Rattle.std.proofs.Common.{◌≡◌, Some, map, take}
 use Rattle.sqlite.specs.State.{HasCleanDisk}
 use Rattle.desk_model.specs.Desk.{Desk}
 use Rattle.desk_model.specs.IsDesk.{IsDesk}
-use Rattle.store_tables.specs.Calls.{Spares}
-use Rattle.store_tables.specs.Stands.{StandsFor}
+use Rattle.store_tables.specs.Calls.{LeavesTables}
+use Rattle.store_tables.specs.Stands.{Represents}
 use Rattle.store_core.specs.Seen.{state_of}
 use Rattle.desk_finds.specs.Found.{found_of}
 use Rattle.desk_finds.proofs.finding.found.Given as goal
@@ -14,8 +14,8 @@ invariant-loop-placed g l =
     let old = state_of g.S.Store l.fn.store in
     let now = state_of g.S.Store l.store in record {
       told :
-          (desk : Desk) → IsDesk desk → StandsFor desk old → HasCleanDisk now
+          (desk : Desk) → IsDesk desk → Represents desk old → HasCleanDisk now
           → map Some l.rows.items
           ≡ map (found_of l.settings l.caller desk) (take l.placed-index l.page);
-      kept : Spares old now;
+      kept : LeavesTables old now;
     }

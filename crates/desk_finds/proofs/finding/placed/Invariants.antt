@@ -4,8 +4,8 @@ use Rattle.std.specs.Prelude.{filter_map}
 use Rattle.sqlite.specs.State.{HasCleanDisk}
 use Rattle.desk_model.specs.Desk.{Desk}
 use Rattle.desk_model.specs.IsDesk.{IsDesk}
-use Rattle.store_tables.specs.Calls.{Spares}
-use Rattle.store_tables.specs.Stands.{StandsFor}
+use Rattle.store_tables.specs.Calls.{LeavesTables}
+use Rattle.store_tables.specs.Stands.{Represents}
 use Rattle.store_core.specs.Seen.{state_of}
 use Rattle.desk_finds.specs.Found.{placed_by}
 use Rattle.desk_finds.proofs.finding.placed.Given as goal
@@ -15,8 +15,8 @@ invariant-loop-dated g l =
     let old = state_of g.S.Store l.fn.store in
     let now = state_of g.S.Store l.store in record {
       told :
-          (desk : Desk) → IsDesk desk → StandsFor desk old → HasCleanDisk now
+          (desk : Desk) → IsDesk desk → Represents desk old → HasCleanDisk now
           → l.placed.items
           ≡ filter_map (placed_by l.settings l.caller l.search desk) (take l.dated-index l.rows);
-      kept : Spares old now;
+      kept : LeavesTables old now;
     }

@@ -6,5 +6,5 @@ use Rattle.desk_forms.proofs.asked.put_all.Given as goal
 
 abbrev pub invariant-loop-arg : goal.invariant-loop-arg
 invariant-loop-arg g l =
-    put_all (map argument_of (drop l.arg-index l.args)) (g.S.Sheet.sheet l.sheet) (values_of l.v)
-    ≡ put_all (map argument_of l.args) (g.S.Sheet.sheet l.sheet) (values_of l.fn.blank)
+    put_all (map argument_of (drop l.arg-index l.args)) (g.S.ArgumentSource.sheet l.sheet) (values_of l.v)
+    ≡ put_all (map argument_of l.args) (g.S.ArgumentSource.sheet l.sheet) (values_of l.fn.blank)

@@ -1,7 +1,7 @@
 -- the names so far
 use Rattle.std.proofs.Common.{◌≡◌, filter, take}
 use Rattle.settings_core.specs.Settings.{people_of}
-use Rattle.desk_pages.specs.Owners.{may_own}
+use Rattle.desk_pages.specs.Rights.{may_own}
 use Rattle.desk_pages.proofs.owners.suggested.Given as goal
 
 abbrev pub invariant-loop-person : goal.invariant-loop-person

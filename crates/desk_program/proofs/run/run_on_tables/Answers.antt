@@ -2,7 +2,7 @@
 use Rattle.std.proofs.Common.{inl, refl, subst, sym}
 use Rattle.settings_core.specs.declared.settings.Settings.{Settings}
 use Rattle.service_core.specs.Seen.{tables_of}
-use Rattle.store_core.specs.Due.{StandsDue}
+use Rattle.store_core.specs.Due.{RepresentsWithDue}
 use Rattle.store_core.specs.Seen.{state_of}
 use Rattle.desk_model.specs.Desk.{empty_desk}
 use Rattle.desk_program.specs.Script.{AnswersCommands}
@@ -11,7 +11,7 @@ use Rattle.desk_program.proofs.run.run_on_tables.Goals as goal
 
 pub run_lines-requires-clause-empty : goal.run_lines-requires-clause-empty
 run_lines-requires-clause-empty g c =
-    subst (λ (s : Settings). StandsDue s empty_desk (tables_of g.S.Store c.in-Ok.desk))
+    subst (λ (s : Settings). RepresentsWithDue s empty_desk (tables_of g.S.Store c.in-Ok.desk))
     (sym c.in-Ok.ensures.attached.same)
     (c.in-Ok.ensures.attached.renewed empty_desk empty_is_desk c.requires.empty)
 

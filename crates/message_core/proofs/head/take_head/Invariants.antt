@@ -4,7 +4,7 @@ use Rattle.std.specs.Io.KnownBytes.{Consumes}
 use Rattle.httparse.specs.Spans.{RequestOverflows}
 use Rattle.stream_core.specs.Seen.{HaveOneReader, has_read_failed, left_in, reads_of}
 use Rattle.message_core.specs.Head.{HasNoLimitedHead, are_line_ends}
-use Rattle.message_core.specs.declared.head.Front.TheVariants.{Begun}
+use Rattle.message_core.specs.declared.head.HeadSoFar.TheVariants.{Begun}
 use Rattle.message_core.proofs.head.take_head.Given as goal
 
 abbrev pub invariant-loop-turn : goal.invariant-loop-turn

@@ -3,7 +3,7 @@ use Rattle.std.proofs.Common.{◌∙◌, ap, lit<}
 use Rattle.std.proofs.lemmas.Iterator.Consumers.{YieldsList-at, YieldsList-end}
 use Rattle.std.proofs.lemmas.Iterator.Splits.{YieldsList-from_str_split}
 use Rattle.std.specs.List.{filter}
-use Rattle.page_routes.specs.Filled.{is_filled}
+use Rattle.page_routes.specs.FormArguments.{is_filled}
 use Rattle.page_routes.proofs.filled.names_in.Goals as goal
 
 pub returns : goal.returns

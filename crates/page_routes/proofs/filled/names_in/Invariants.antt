@@ -1,7 +1,7 @@
 -- the names so far
 use Rattle.std.proofs.Common.{◌≡◌, map}
 use Rattle.std.specs.List.{filter}
-use Rattle.page_routes.specs.Filled.{is_filled}
+use Rattle.page_routes.specs.FormArguments.{is_filled}
 use Rattle.page_routes.proofs.filled.names_in.Given as goal
 
 abbrev pub invariant-loop-name : goal.invariant-loop-name

@@ -1,13 +1,13 @@
 use Rattle.std.proofs.Common.{◌≡◌, ◌<◌, ◌+◌, ℕ, List, Option, None, length, drop, get_or, map, arith}
 use Rattle.std.proofs.Common.{ap, sym, ◌∙◌, option_and_then, option_map}
 use Rattle.std.proofs.lemmas.List.{drop_more}
-use Rattle.desk_forms.specs.Paths.{Bound, part_of}
+use Rattle.desk_forms.specs.Paths.{PathParameter, part_of}
 use Rattle.route_core.specs.Places.{Standing, behind, bound_by, standing_of}
 use Rattle.desk_forms.specs.declared.paths.Part.{Part}
 use Rattle.route_core.proofs.places.bound_by.Goals as goal
 
 -- where a part may not stand, nothing comes of the parts from there
-stops : (parts : List Part) (i : ℕ) (d : Part) (at : Standing) (all : Option Bound)
+stops : (parts : List Part) (i : ℕ) (d : Part) (at : Standing) (all : Option PathParameter)
     → i < length parts → bound_by (map part_of (drop i parts)) at ≡ all
     → behind (part_of (get_or parts i d)) at ≡ None → None ≡ all
 stops parts i d at all within is none =

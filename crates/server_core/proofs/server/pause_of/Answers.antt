@@ -2,13 +2,13 @@
 use Rattle.std.proofs.Common.{◌∙◌, ap, arith, false, get_or, min}
 use Rattle.connection_core.specs.Seen.{seen}
 use Rattle.server_core.specs.Wait.{is_full, pause_at}
-use Rattle.server_core.specs.declared.host.Mark.{Mark}
+use Rattle.server_core.specs.declared.host.Readiness.{Readiness}
 use Rattle.server_core.proofs.PauseLemmas.{pauses_on}
 use Rattle.server_core.proofs.server.pause_of.Goals as goal
 
 pub loop-place-preserved : goal.loop-place-preserved
 loop-place-preserved g c =
-    let none : Mark = record { readable = false; writable = false } in
+    let none : Readiness = record { readable = false; writable = false } in
     let mark = get_or c.args.marks.now c.loop-place.place none in
     pauses_on c.args.slots.now c.args.marks.now (is_full c.args.queue) c.args.now c.loop-place.pause
     c.min-pause.result _ c.loop-place.place c.index-slots-place.result none

@@ -3,7 +3,7 @@ use Rattle.std.proofs.Common.{Err}
 use Rattle.store_core.specs.Due.{due_of_row}
 use Rattle.store_core.specs.Seen.{state_of}
 use Rattle.service_core.specs.Asked.{asked}
-use Rattle.service_core.specs.TableSteps.{StepsOn}
+use Rattle.service_core.specs.TableSteps.{StepOverTables}
 use Rattle.service_core.proofs.Safely.{seen_safely, spared_safely}
 use Rattle.service_core.proofs.Stepping.{unavailable_on}
 use Rattle.service_core.proofs.execute.step.Goals as goal
@@ -13,9 +13,9 @@ returns-in-Ok g c =
     let settings = c.args.call.settings.now in
     seen_safely c.in-Ok.facts settings (asked c.args.call c.args.command.now)
     (state_of g.S.Store c.args.store.now) (state_of g.S.Store c.facts_for.new.self)
-    (state_of g.S.Store c.step_seeing-outcome.new.store) c.step_seeing-outcome.result
+    (state_of g.S.Store c.step_on_facts-outcome.new.store) c.step_on_facts-outcome.result
     (λ desk is stand clean. c.in-Ok.ensures.told desk is (due_of_row settings desk, stand) clean)
-    c.facts_for.ensures.kept c.step_seeing-outcome.ensures
+    c.facts_for.ensures.kept c.step_on_facts-outcome.ensures
 
 pub returns-in-Err : goal.returns-in-Err
 returns-in-Err g c =
@@ -23,7 +23,7 @@ returns-in-Err g c =
     let ask = asked c.args.call c.args.command.now in
     let old = state_of g.S.Store c.args.store.now in
     let new = state_of g.S.Store c.facts_for.new.self in
-    spared_safely (StepsOn settings ask) old new (Err c.into.result)
+    spared_safely (StepOverTables settings ask) old new (Err c.into.result)
     (unavailable_on settings ask c.into.result old new c.into.ensures
     c.facts_for.ensures.kept)
     c.into.ensures c.facts_for.ensures.kept

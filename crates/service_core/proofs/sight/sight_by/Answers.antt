@@ -1,7 +1,7 @@
 use Rattle.std.proofs.Common.{◌≡◌, ap, take, rules}
 use Rattle.std.proofs.lemmas.List.{take_all}
 use Rattle.std.specs.List.{list_any}
-use Rattle.service_core.specs.Sight.{lets_see}
+use Rattle.service_core.specs.QueueVisibility.{lets_see}
 use Rattle.service_core.proofs.SightLemmas.{seen_alike}
 use Rattle.service_core.proofs.sight.sight_by.Goals as goal
 

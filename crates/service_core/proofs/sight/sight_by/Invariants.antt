@@ -1,6 +1,6 @@
 use Rattle.std.proofs.Common.{take}
 use Rattle.std.specs.List.{list_any}
-use Rattle.service_core.specs.Sight.{IsSight, lets_see}
+use Rattle.service_core.specs.QueueVisibility.{IsSight, lets_see}
 use Rattle.service_core.proofs.sight.sight_by.Given as goal
 
 abbrev pub invariant-loop-grant : goal.invariant-loop-grant

@@ -3,7 +3,7 @@ use Rattle.std.specs.Prelude.{⊤}
 use Rattle.sqlite.specs.Held.{state}
 use Rattle.store_tables.specs.Contents.{contents_of}
 use Rattle.store_tables.proofs.Lasting.{by, through}
-use Rattle.store_tables.specs.Stands.{GoesBack}
+use Rattle.store_tables.specs.Stands.{RolledBack}
 use Rattle.store_tables.specs.declared.fault.StoreFault.{StoreFault}
 use Rattle.store_tables.proofs.ReadingLemmas.{if_err}
 use Rattle.store_tables.proofs.StandLemmas.{begins_on, begun_back, was_clean}
@@ -88,7 +88,7 @@ returns-in_err-make_all-clause-back g c =
     let is : c.from_residual.result ≡ Err c.in_err-make_all.field-0.0 = search rules in
     let mid = state g.S.Store c.make_all.new.tx.conn.now in
     let end = state g.S.Store c.drop-tx.new.self.0 in
-    let back : GoesBack mid end = λ clean live.
+    let back : RolledBack mid end = λ clean live.
     let undone = c.drop-tx.ensures.undone clean in
     let before = was_clean _ _ _ c.drop-tx.ensures.survives clean in
     (before, undone.was_open live, (undone.undone live).0, (undone.undone live).1) in

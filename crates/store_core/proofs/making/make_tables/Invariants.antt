@@ -2,7 +2,7 @@ use Rattle.std.proofs.Common.{◌≡◌, map, Ok, Result}
 use Rattle.std.specs.Prelude.{⊤}
 use Rattle.sqlite.specs.Held.{state}
 use Rattle.store_tables.specs.Contents.{table_texts}
-use Rattle.store_tables.specs.Calls.{Runs}
+use Rattle.store_tables.specs.Calls.{StatementRuns}
 use Rattle.store_tables.specs.declared.fault.StoreFault.{StoreFault}
 use Rattle.store_core.proofs.FrontLemmas.{Reaches}
 use Rattle.store_core.proofs.making.make_tables.Given as goal
@@ -15,5 +15,5 @@ invariant-loop-sql g l =
     record {
       same : l.tx.conn.ghost_name ≡ l.fn.tx.conn.ghost_name;
       reaches : map (λ text. text.now) l.texts ≡ table_texts → Reaches l.sql-index old now;
-      runs : Runs (λ (done : ⊤). ⊤) old now done;
+      runs : StatementRuns (λ (done : ⊤). ⊤) old now done;
     }

@@ -8,7 +8,7 @@ ghost use Rattle.store_tables.specs.Picked.{AreParts};
 ghost use Rattle.store_tables.specs.declared.fault.StoreFault.{StoreFault};
 ghost use Rattle.store_tables.specs.Seen.{seen};
 ghost use Rattle.sqlite.specs.Held.{state};
-ghost use Rattle.store_tables.specs.Calls.{Inside, Looks};
+ghost use Rattle.store_tables.specs.Calls.{AnswersInTransaction, QueryInTransaction};
 
 use crate::columns::number;
 use crate::fault::StoreFault;
@@ -46,11 +46,11 @@ pub fn numbers_inside<S: Alter>(
     tx: &mut Transaction<'_, S>,
 ) -> Result<Vec<u32>, StoreFault>
     ensures same_reference { tx.new.conn.ghost_name ≡ tx.old.conn.ghost_name }
-    ensures listed { Inside (λ c ns. AreParts number_of by_id (requests c) ns.items)
+    ensures listed { AnswersInTransaction (λ c ns. AreParts number_of by_id (requests c) ns.items)
         (state S.Store tx.old.conn.now) (state S.Store tx.new.conn.now) result }
     ensures mismatch { MismatchesInNumbers
         (state S.Store tx.old.conn.now) (state S.Store tx.new.conn.now) result }
-    ensures looks { Looks
+    ensures looks { QueryInTransaction
         (state S.Store tx.old.conn.now) (state S.Store tx.new.conn.now) result }
 {
     select_all(alloc, tx, "SELECT id FROM request ORDER BY id", &[])

@@ -3,7 +3,7 @@ use Rattle.std.proofs.Common.{◌≡◌, ◌∙◌, ◌++◌, ℕ, List, Err, Ok
 use Rattle.std.proofs.lemmas.List.{append-nil}
 use Rattle.service_core.specs.Seen.{settings_of, tables_of}
 use Rattle.store_tables.proofs.Spared.{unread}
-use Rattle.store_tables.specs.Calls.{Spares}
+use Rattle.store_tables.specs.Calls.{LeavesTables}
 use Rattle.wire_core.specs.Rooms.{held_in}
 use Rattle.wire_core.specs.declared.fault.ServeFault.TheVariants.{NoMemory}
 use Rattle.wire_core.proofs.Stepping.{replied, replied_over}
@@ -28,7 +28,7 @@ returns-in-Ok-clause-reply g c =
 pub returns-in-Err-clause-over : goal.returns-in-Err-clause-over
 returns-in-Err-clause-over g c =
     let kept :
-    Spares (tables_of g.S.Store c.args.desk.now) (tables_of g.S.Store c.answer_counted.new.desk) =
+    LeavesTables (tables_of g.S.Store c.args.desk.now) (tables_of g.S.Store c.answer_counted.new.desk) =
     rw c.in-Err.ensures.given (unread (tables_of g.S.Store c.args.desk.now)) in
     kept
 

@@ -3,7 +3,7 @@ use Rattle.std.proofs.Common.{◌≡◌, ◌∙◌, Bool, true, false, IfOk, Ok,
 use Rattle.std.proofs.Common.{subst, sym}
 use Rattle.sqlite.specs.State.{State}
 use Rattle.store_tables.specs.declared.fault.StoreFault.{StoreFault}
-use Rattle.store_tables.specs.Calls.{Spares}
+use Rattle.store_tables.specs.Calls.{LeavesTables}
 use Rattle.store_tables.proofs.ReadOn.{blames_failed, blames_none}
 use Rattle.store_tables.proofs.Spared.{stands_for}
 use Rattle.service_core.specs.Attaching.{IsGivenBack, knows_names}
@@ -25,7 +25,7 @@ not_done r came differs is same =
     subst (λ (q : Result Renewal StoreFault). IfOk q (λ x. is_done x ≡ false)) same at_came in cc
 
 -- a fault that leaves the tables gives the store back
-given_back : {old new : State} → Spares old new → IsGivenBack old new
+given_back : {old new : State} → LeavesTables old new → IsGivenBack old new
 given_back kept = record { spared = kept; stands = stands_for kept }
 
 pub returns-in-Ok-Done-clause-attached : goal.returns-in-Ok-Done-clause-attached

@@ -2,7 +2,7 @@
 use Rattle.std.proofs.Common.{Err}
 use Rattle.desk_model.specs.declared.refusal.Refusal.TheVariants.{Unavailable}
 use Rattle.service_core.specs.Seen.{settings_of, tables_of}
-use Rattle.service_core.specs.TableSteps.{StepsOn, ask_by}
+use Rattle.service_core.specs.TableSteps.{StepOverTables, ask_by}
 use Rattle.service_core.proofs.LeftLemmas.{left_same}
 use Rattle.service_core.proofs.Telling.{at_err, left_out, left_out_if_long}
 use Rattle.service_core.proofs.desk.Desk.told.Goals as goal
@@ -37,7 +37,7 @@ returns-in_err-room-clause-err g c =
     let settings = settings_of g.S.Store c.args.self.now in
     let ask = ask_by c.args.at c.args.caller.now c.args.command.now in
     let tables = tables_of g.S.Store c.args.self.now in
-    at_err c.from_residual.result (StepsOn settings ask (Err Unavailable) tables tables)
+    at_err c.from_residual.result (StepOverTables settings ask (Err Unavailable) tables tables)
     (left_out settings ask tables)
 
 pub returns-in_err-room-clause-left : goal.returns-in_err-room-clause-left

@@ -1,0 +1,6 @@
+pub mod BatchLemmas
+pub mod CommitLemmas
+mod Examples
+pub mod FreshLemmas
+pub mod MarkLemmas
+pub mod RunLemmas

@@ -1,0 +1,70 @@
+-- The command for which the fields of a form ask.
+use Rattle.std.specs.Prelude.{ℕ, ◌==◌, Bool, false, not, if◌then◌else◌, List, [], ◌∷◌, length, codes}
+use Rattle.std.specs.Prelude.{Option, Some, None, unwrap_or}
+use Rattle.std.specs.List.{filter, slice_split}
+use Rattle.std.specs.Option.{option_and_then}
+use Rattle.desk_model.specs.declared.command.Command.{Command}
+use Rattle.browser_core.specs.Form.{has_fields, value_of}
+use Rattle.browser_core.specs.declared.form.Field.{Field}
+use Rattle.desk_forms.specs.Asked.{asked}
+use Rattle.desk_forms.specs.Keys.{queue_or, request_in}
+use Rattle.desk_forms.specs.Number.{number_of}
+use Rattle.desk_forms.specs.Paths.{PathParameter}
+use Rattle.desk_forms.specs.ArgumentSource.{ArgumentSource}
+use Rattle.desk_forms.specs.declared.table.Form.{Form}
+use Rattle.desk_forms.specs.declared.table.Form.TheVariants as forms
+
+-- ---- the fields of each form
+
+-- those that it sends
+abbrev pub needed : Form → List (List ℕ)
+needed forms.OpenQueue = codes "queue" ∷ codes "lifecycle" ∷ codes "level" ∷ []
+needed forms.Create = codes "subject" ∷ codes "requestors" ∷ []
+needed forms.SetStatus = codes "status" ∷ []
+needed forms.SetLevel = codes "level" ∷ []
+needed forms.Give = codes "person" ∷ []
+needed forms.Reply = codes "text" ∷ []
+needed forms.Comment = codes "text" ∷ []
+needed forms.Watch = codes "role" ∷ codes "person" ∷ []
+needed forms.Unwatch = codes "role" ∷ codes "person" ∷ []
+needed forms.Link = codes "kind" ∷ codes "other" ∷ []
+needed forms.Unlink = codes "kind" ∷ codes "other" ∷ []
+needed _ = []
+
+-- those that it may send: with a new request the first text, and with a reply a status
+abbrev pub others : Form → List (List ℕ)
+others forms.Create = codes "status" ∷ codes "text" ∷ []
+others forms.Reply = codes "status" ∷ []
+others _ = []
+
+-- ---- the command
+
+abbrev pub is_filled : List ℕ → Bool
+is_filled text = not (length text == 0)
+
+-- an empty value is none
+abbrev pub filled : Option (List ℕ) → Option (List ℕ)
+filled None = None
+filled (Some value) = if length value == 0 then None else Some value
+
+-- the names that stand between spaces
+abbrev pub names_in : List ℕ → List (List ℕ)
+names_in text = filter is_filled (slice_split (λ b. b == 32) text)
+
+-- what the path and the fields give, by the keys of arguments; where a text may be left out, an
+-- empty one is none
+abbrev pub sheet_of : PathParameter → List Field → ArgumentSource
+sheet_of b fields = record {
+  id = λ k. request_in b;
+  queue = λ k. queue_or b (value_of k fields);
+  number = λ k. option_and_then number_of (value_of k fields);
+  text = λ k. value_of k fields;
+  maybe = λ k. Some (filled (value_of k fields));
+  texts = λ k. Some (names_in (unwrap_or (value_of k fields) []));
+  is_set = λ k. false;
+}
+
+-- the command of a form, where the fields are just its own
+abbrev pub command_in : Form → PathParameter → List Field → Option Command
+command_in form b fields =
+    if has_fields (needed form) (others form) fields then asked form (sheet_of b fields) else None

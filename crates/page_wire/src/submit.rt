@@ -1,0 +1,236 @@
+//! What a form asks of the desk, and its reply.
+ghost use Rattle.std.specs.Prelude.{◌≡◌, ◌≤◌, [], IfOk, OnErr, OnOk};
+ghost use Rattle.std.specs.Option.{option_and_then, option_map};
+ghost use Rattle.std.specs.Vec.{vec_capacity};
+ghost use Rattle.desk_model.specs.Step.{refusal_beforehand};
+ghost use Rattle.page_core.specs.Page.{page_bytes};
+ghost use Rattle.service_core.specs.Leaves.{LeavesDesk};
+ghost use Rattle.service_core.specs.Seen.{settings_of, tables_of};
+ghost use Rattle.page_wire.specs.Forms.{FormStepsOn, StepsUnrefusedOn, refused_before as refused_first};
+ghost use Rattle.page_wire.specs.Next.{next_text as text_after};
+ghost use Rattle.page_wire.specs.Replies as form;
+ghost use Rattle.wire_core.specs.Steps.{StaysOn};
+
+use crate::follow_up::run_follow_up;
+use crate::next::{follow_up_command, next_text};
+use crate::replies::with_page;
+use desk_core::{Answer, Command, Refusal, refusal_without_facts};
+use desk_pages::{
+    Typed, ask_refusal_page, comment_refusal_page, refusal_page, reply_refusal_page,
+    request_refusal_page,
+};
+use hours_core::Minute;
+use page_routes::SubmittedForm;
+use service_core::Desk;
+use settings_core::Settings;
+use std::alloc::{AllocError, Global};
+use store_core::Backend;
+use text_core::Text;
+use wire_core::code_of_refusal;
+
+/// Does what a form asks for, its second command only where the first isn't refused, and puts its
+/// reply into the room. What the second would be refused for on every desk is refused before the
+/// first. Out of memory nothing is done, and nothing is put.
+#[tactic(auto, using(service_core::proofs::LeftLemmas::left_same))]
+pub(crate) fn submit_form<S: Backend>(
+    alloc: Global,
+    caller: &str,
+    command: &Command,
+    sent: &SubmittedForm,
+    moment: Minute,
+    desk: &mut Desk<S>,
+    room: &mut Vec<u8>,
+) -> Result<(), AllocError>
+    requires empty { room.old.items ≡ [] }
+    requires room { 512 ≤ vec_capacity room.old }
+    ensures ok { OnOk result (FormStepsOn (settings_of S.Store desk.old) moment caller.now
+        command.now sent.now room.new.items (tables_of S.Store desk.old)
+        (tables_of S.Store desk.new)) }
+    ensures err { OnErr result ((room.new ≡ room.old) × StaysOn (settings_of S.Store desk.old)
+        (tables_of S.Store desk.old) (tables_of S.Store desk.new)) }
+    ensures left { LeavesDesk S.Store desk.old desk.new }
+{
+    match refused_before(alloc, desk.settings(), caller, sent, moment) {
+        Ok(None) => submit_both(alloc, caller, command, sent, moment, desk, room),
+        Ok(Some(refusal)) => {
+            let told = put_refused(alloc, caller, moment, sent, &refusal, room);
+            drop(refusal);
+            told
+        }
+        Err(_) => Err(AllocError),
+    }
+}
+
+/// What the second command of a form is refused for whatever stands on the desk, if for anything.
+fn refused_before(
+    alloc: Global,
+    settings: &Settings,
+    caller: &str,
+    sent: &SubmittedForm,
+    moment: Minute,
+) -> Result<Option<Refusal>, AllocError>
+    ensures { IfOk result (λ refusal.
+        refusal ≡ refused_first settings.now moment caller.now sent.now) }
+{
+    let text = next_text(alloc, sent)?;
+    let second = follow_up_command(sent, &Answer::Created(0), text);
+    Ok(refusal_of(settings, caller, moment, &second))
+}
+
+fn refusal_of(
+    settings: &Settings,
+    caller: &str,
+    moment: Minute,
+    second: &Option<Command>,
+) -> Option<Refusal>
+    ensures { result
+        ≡ option_and_then (refusal_beforehand settings.now moment caller.now) second.now }
+{
+    match second {
+        Some(command) => refusal_without_facts(settings, moment.get(), caller, command),
+        None => None,
+    }
+}
+
+/// Does what a form asks for whose second command isn't refused beforehand.
+#[tactic(auto, using(service_core::proofs::LeftLemmas::left_same))]
+fn submit_both<S: Backend>(
+    alloc: Global,
+    caller: &str,
+    command: &Command,
+    sent: &SubmittedForm,
+    moment: Minute,
+    desk: &mut Desk<S>,
+    room: &mut Vec<u8>,
+) -> Result<(), AllocError>
+    requires empty { room.old.items ≡ [] }
+    requires room { 512 ≤ vec_capacity room.old }
+    ensures ok { OnOk result (StepsUnrefusedOn (settings_of S.Store desk.old) moment caller.now
+        command.now sent.now room.new.items (tables_of S.Store desk.old)
+        (tables_of S.Store desk.new)) }
+    ensures err { OnErr result ((room.new ≡ room.old) × StaysOn (settings_of S.Store desk.old)
+        (tables_of S.Store desk.old) (tables_of S.Store desk.new)) }
+    ensures left { LeavesDesk S.Store desk.old desk.new }
+{
+    match next_text(alloc, sent) {
+        Ok(text) => submit(alloc, caller, command, sent, text, moment, desk, room),
+        Err(_) => Err(AllocError),
+    }
+}
+
+/// The same, with a copy of what the second command takes: it was had before the first is done.
+fn submit<S: Backend>(
+    alloc: Global,
+    caller: &str,
+    command: &Command,
+    sent: &SubmittedForm,
+    text: Option<Text>,
+    moment: Minute,
+    desk: &mut Desk<S>,
+    room: &mut Vec<u8>,
+) -> Result<(), AllocError>
+    requires text { text ≡ text_after sent.now }
+    requires empty { room.old.items ≡ [] }
+    requires room { 512 ≤ vec_capacity room.old }
+    ensures ok { OnOk result (StepsUnrefusedOn (settings_of S.Store desk.old) moment caller.now
+        command.now sent.now room.new.items (tables_of S.Store desk.old)
+        (tables_of S.Store desk.new)) }
+    ensures err { OnErr result ((room.new ≡ room.old) × StaysOn (settings_of S.Store desk.old)
+        (tables_of S.Store desk.old) (tables_of S.Store desk.new)) }
+    ensures left { LeavesDesk S.Store desk.old desk.new }
+{
+    match desk.execute(alloc, moment.get(), caller, command) {
+        Ok(answer) => {
+            let second = follow_up_command(sent, &answer, text);
+            run_follow_up(alloc, caller, second, sent, &answer, moment, desk, room);
+            drop(answer);
+            Ok(())
+        }
+        Err(refusal) => put_refused(alloc, caller, moment, sent, &refusal, room),
+    }
+}
+
+/// Puts the reply to a form that was refused; out of memory, nothing.
+fn put_refused(
+    alloc: Global,
+    caller: &str,
+    moment: Minute,
+    sent: &SubmittedForm,
+    refusal: &Refusal,
+    room: &mut Vec<u8>,
+) -> Result<(), AllocError>
+    ensures ok { OnOk result (room.new.items
+        ≡ form.refused_reply caller.now moment sent.now refusal.now) }
+    ensures err { OnErr result (room.new ≡ room.old) }
+{
+    match refused_reply(alloc, caller, moment, sent, refusal) {
+        Ok(bytes) => {
+            *room = bytes;
+            Ok(())
+        }
+        Err(_) => Err(AllocError),
+    }
+}
+
+fn refused_reply(
+    alloc: Global,
+    caller: &str,
+    moment: Minute,
+    sent: &SubmittedForm,
+    refusal: &Refusal,
+) -> Result<Vec<u8>, AllocError>
+    ensures { IfOk result (λ out. out.items
+        ≡ form.refused_reply caller.now moment sent.now refusal.now) }
+{
+    let page = refused_page(alloc, caller, moment, sent, refusal)?;
+    with_page(alloc, code_of_refusal(refusal), page)
+}
+
+/// The page of a refused form, with what was typed into it, and what was chosen.
+fn refused_page(
+    alloc: Global,
+    caller: &str,
+    moment: Minute,
+    sent: &SubmittedForm,
+    refusal: &Refusal,
+) -> Result<Vec<u8>, AllocError>
+    ensures { IfOk result (λ page. page.items
+        ≡ page_bytes (form.refused_form caller.now moment sent.now refusal.now)) }
+{
+    match sent {
+        SubmittedForm::Queue => refusal_page(alloc, refusal, caller, moment),
+        SubmittedForm::New {
+            queue,
+            subject,
+            requestors,
+            text,
+            status,
+        } => {
+            let typed = Typed {
+                subject: subject.as_str(),
+                text: text.as_str(),
+                requestors: requestors.as_str(),
+            };
+            let (queue, status) = (queue.as_str(), as_str(status));
+            ask_refusal_page(alloc, refusal, caller, moment, queue, typed, status)
+        }
+        SubmittedForm::Reply { id, text, status } => {
+            let status = as_str(status);
+            reply_refusal_page(alloc, refusal, caller, moment, *id, text.as_str(), status)
+        }
+        SubmittedForm::Comment { id, text } => {
+            comment_refusal_page(alloc, refusal, caller, moment, *id, text.as_str())
+        }
+        SubmittedForm::Change { id } => request_refusal_page(alloc, refusal, caller, moment, *id),
+    }
+}
+
+/// The status that was chosen.
+fn as_str(status: &Option<Text>) -> Option<&str>
+    ensures { option_map (λ s. s.now) result ≡ status.now }
+{
+    match status {
+        Some(status) => Some(status.as_str()),
+        None => None,
+    }
+}

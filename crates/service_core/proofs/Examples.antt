@@ -1,0 +1,57 @@
+-- Examples of the definitions: the ends of links by their kind, and which entries are told.
+use Rattle.std.specs.Prelude.{◌≡◌, refl, true, false, List, [], ◌∷◌, codes}
+use Rattle.desk_model.specs.declared.rows.Entry.{Entry}
+use Rattle.desk_model.specs.declared.rows.EntryKind.{EntryKind}
+use Rattle.desk_model.specs.declared.rows.EntryKind.TheVariants.{Comment, Reply, Status}
+use Rattle.desk_model.specs.declared.rows.LinkKind.TheVariants.{DependsOn, MemberOf, RefersTo}
+use Rattle.desk_model.specs.declared.rows.LinkRow.{LinkRow}
+use Rattle.service_core.specs.Shown.{is_told, numbers_at}
+use Rattle.service_core.specs.declared.links.End.TheVariants.{Source, Target}
+
+-- 7 depends on 1, is a member of 2 and refers to 3; 8 refers to 7
+abbrev links : List LinkRow
+links =
+    record { source = 7; kind = DependsOn; target = 1 }
+    ∷ record { source = 7; kind = MemberOf; target = 2 }
+    ∷ record { source = 7; kind = RefersTo; target = 3 }
+    ∷ record { source = 8; kind = RefersTo; target = 7 }
+    ∷ []
+
+one_kind_alone : numbers_at Target DependsOn links ≡ 1 ∷ []
+one_kind_alone = refl
+
+another_kind : numbers_at Target MemberOf links ≡ 2 ∷ []
+another_kind = refl
+
+both_of_a_kind_in_their_order : numbers_at Target RefersTo links ≡ 3 ∷ 7 ∷ []
+both_of_a_kind_in_their_order = refl
+
+the_other_ends : numbers_at Source RefersTo links ≡ 7 ∷ 8 ∷ []
+the_other_ends = refl
+
+no_links : numbers_at Source RefersTo [] ≡ []
+no_links = refl
+
+abbrev entry : EntryKind → Entry
+entry kind =
+    record {
+      id = 7;
+      number = 1;
+      moment = 29546970;
+      actor = codes "ann";
+      kind = kind;
+      head = [];
+      body = codes "jam";
+    }
+
+comment_where_comments_are_shown : is_told true (entry Comment) ≡ true
+comment_where_comments_are_shown = refl
+
+comment_where_they_are_not : is_told false (entry Comment) ≡ false
+comment_where_they_are_not = refl
+
+reply_is_always_told : (is_told true (entry Reply) ≡ true) × (is_told false (entry Reply) ≡ true)
+reply_is_always_told = (refl, refl)
+
+move_is_always_told : is_told false (entry Status) ≡ true
+move_is_always_told = refl
