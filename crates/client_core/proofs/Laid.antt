@@ -8,10 +8,10 @@ use Rattle.std.proofs.lemmas.Slice.Eq.{bytes_eq-Decides}
 use Rattle.text_core.specs.Form.{is_name}
 use Rattle.desk_forms.specs.Paths.{PathParameter, InQueue, Nothing, OnRequest, Part, Row, get, id, lit, queue}
 use Rattle.desk_forms.specs.Table.{paths}
-use Rattle.desk_forms.specs.Values.{Values}
+use Rattle.desk_forms.specs.Arguments.{Arguments}
 use Rattle.desk_forms.specs.declared.paths.Method.{Method}
 use Rattle.desk_forms.specs.declared.paths.Method.TheVariants.{Get, Post}
-use Rattle.desk_forms.specs.declared.table.Form.TheVariants as form
+use Rattle.desk_forms.specs.declared.table.CommandForm.TheVariants as form
 use Rattle.route_core.specs.Commands.{asked_at, path_in}
 use Rattle.route_core.specs.Cuts.{cut, onto, text_in}
 use Rattle.route_core.specs.Places.{at, bound_at, bound_by, bound_to, is_method, place_on}
@@ -43,7 +43,7 @@ whole (b ∷ bs) all =
     ap (λ (c : List ℕ × Option (List ℕ)). c.0) (cut_on 63 b bs k.0)
     ∙ ap (λ (l : List ℕ). b ∷ l) (whole bs k.1)
 
-path_whole : (place : ℕ) (v : Values) → place < length paths → v.id < 2 ^ 32
+path_whole : (place : ℕ) (v : Arguments) → place < length paths → v.id < 2 ^ 32
     → path_in (target (row_at place).parts v) ≡ target (row_at place).parts v
 path_whole place v within small =
     whole (target (row_at place).parts v) (path_unasked place v within small)
@@ -51,7 +51,7 @@ path_whole place v within small =
 -- ---- one part
 
 -- what is left of a path where these parts are to come
-abbrev left_for : List Part → Values → Option (List ℕ)
+abbrev left_for : List Part → Arguments → Option (List ℕ)
 left_for [] v = None
 left_for (p ∷ parts) v = Some (part_text p v ++ target parts v)
 
@@ -64,7 +64,7 @@ cut_behind (b ∷ bs) rest all =
     let n = and_parts (not (b == 47)) (no_question b) m.1 in
     cut_on 47 b (bs ++ rest) n.0 ∙ ap (onto (b ∷ [])) (cut_behind bs rest k.1)
 
-cut_part : (p : Part) (parts : List Part) (v : Values)
+cut_part : (p : Part) (parts : List Part) (v : Arguments)
     → list_all is_part_byte (part_text p v) ≡ true
     → cut 47 (part_text p v ++ target parts v) ≡ (part_text p v, left_for parts v)
 cut_part p [] v all =
@@ -75,7 +75,7 @@ cut_part p (q ∷ parts) v all =
     ∙ ap (λ (l : List ℕ). (l, left_for (q ∷ parts) v)) (append-nil (part_text p v))
 
 -- what is named behind a part
-abbrev onward : Part → Values → PathParameter → PathParameter
+abbrev onward : Part → Arguments → PathParameter → PathParameter
 onward (lit here) v b = b
 onward queue v b = InQueue (queue_text v.queue)
 onward id v b = OnRequest v.id
@@ -85,13 +85,13 @@ some_name [] true is = absurd (let no : false ≡ true = is in cc)
 some_name (b ∷ bs) true is = rw is (ne_eqb (length (b ∷ bs)) 0 (λ e. omega (arith, e)))
 some_name name false is = rw is refl
 
-bound_part : (p : Part) (v : Values) (b : PathParameter) → v.id < 2 ^ 32
+bound_part : (p : Part) (v : Arguments) (b : PathParameter) → v.id < 2 ^ 32
     → bound_to p (part_text p v) b ≡ Some (onward p v b)
 bound_part (lit here) v b small = rw ((bytes_eq-Decides here here).1 refl) refl
 bound_part queue v b small = rw (some_name v.queue (is_name v.queue) refl) refl
 bound_part id v b small = ap (option_map OnRequest) (decimal_number v.id small)
 
-part_utf8 : (p : Part) (v : Values) → list_all is_part_byte (part_text p v) ≡ true
+part_utf8 : (p : Part) (v : Arguments) → list_all is_part_byte (part_text p v) ≡ true
     → text_in (part_text p v) ≡ Some (part_text p v)
 part_utf8 p v all =
     let seen = each_so is_part_byte is_host_byte
@@ -100,11 +100,11 @@ part_utf8 p v all =
 
 -- ---- all parts
 
-abbrev all_named : List Part → Values → PathParameter → PathParameter
+abbrev all_named : List Part → Arguments → PathParameter → PathParameter
 all_named [] v b = b
 all_named (p ∷ parts) v b = all_named parts v (onward p v b)
 
-laid : (parts : List Part) (v : Values) (b : PathParameter) → v.id < 2 ^ 32
+laid : (parts : List Part) (v : Arguments) (b : PathParameter) → v.id < 2 ^ 32
     → list_all stands parts ≡ true → bound_by parts (left_for parts v, b) ≡ Some (all_named parts v b)
 laid [] v b small all = refl
 laid (p ∷ parts) v b small all =
@@ -124,21 +124,21 @@ names_one [] = true
 names_one (lit here ∷ parts) = names_one parts
 names_one (p ∷ parts) = names_none parts
 
-none_named : (parts : List Part) (v : Values) (b : PathParameter) → names_none parts ≡ true
+none_named : (parts : List Part) (v : Arguments) (b : PathParameter) → names_none parts ≡ true
     → all_named parts v b ≡ b
 none_named [] v b none = refl
 none_named (lit here ∷ parts) v b none = none_named parts v b none
 none_named (queue ∷ parts) v b none = absurd (let no : false ≡ true = none in cc)
 none_named (id ∷ parts) v b none = absurd (let no : false ≡ true = none in cc)
 
-one_named : (parts : List Part) (v : Values) → names_one parts ≡ true
+one_named : (parts : List Part) (v : Arguments) → names_one parts ≡ true
     → all_named parts v Nothing ≡ named parts v
 one_named [] v one = refl
 one_named (lit here ∷ parts) v one = one_named parts v one
 one_named (queue ∷ parts) v one = none_named parts v (InQueue (queue_text v.queue)) one
 one_named (id ∷ parts) v one = none_named parts v (OnRequest v.id) one
 
-bound_back : (parts : List Part) (v : Values) → v.id < 2 ^ 32 → list_all stands parts ≡ true
+bound_back : (parts : List Part) (v : Arguments) → v.id < 2 ^ 32 → list_all stands parts ≡ true
     → names_one parts ≡ true → nat_lt 0 (length parts) ≡ true
     → bound_at parts (target parts v) ≡ Some (named parts v)
 bound_back [] v small all one some = absurd (let no : false ≡ true = some in cc)

@@ -9,7 +9,7 @@ use Rattle.std.proofs.lemmas.Fmt.{length-decimal-le}
 use Rattle.text_core.specs.Form.{is_digit, is_name, is_name_byte, is_small_letter}
 use Rattle.desk_forms.specs.Paths.{Part, Row, id, lit, queue}
 use Rattle.desk_forms.specs.Table.{paths}
-use Rattle.desk_forms.specs.Values.{Values}
+use Rattle.desk_forms.specs.Arguments.{Arguments}
 use Rattle.client_core.specs.Message.{is_host_byte}
 use Rattle.client_core.specs.Spelled.{row_at}
 use Rattle.client_core.specs.Target.{part_text, queue_text, target}
@@ -66,7 +66,7 @@ stands (lit here) = list_all is_part_byte here
 stands queue = true
 stands id = true
 
-pub part_all : (p : Part) (v : Values) → v.id < 2 ^ 32 → stands p ≡ true
+pub part_all : (p : Part) (v : Arguments) → v.id < 2 ^ 32 → stands p ≡ true
     → list_all is_part_byte (part_text p v) ≡ true
 part_all (lit here) v small is = is
 part_all queue v small is = queue_all v.queue (is_name v.queue) refl
@@ -84,7 +84,7 @@ some_each = refl
 
 -- ---- its path
 
-target_all : (parts : List Part) (v : Values) → v.id < 2 ^ 32 → list_all stands parts ≡ true
+target_all : (parts : List Part) (v : Arguments) → v.id < 2 ^ 32 → list_all stands parts ≡ true
     → list_all is_path_byte (target parts v) ≡ true
 target_all [] v small all = refl
 target_all (p ∷ parts) v small all =
@@ -93,12 +93,12 @@ target_all (p ∷ parts) v small all =
     (each_so is_part_byte is_path_byte in_path (part_text p v) (part_all p v small k.0))
     (target_all parts v small k.1)
 
-some_target : (parts : List Part) (v : Values) → nat_lt 0 (length parts) ≡ true
+some_target : (parts : List Part) (v : Arguments) → nat_lt 0 (length parts) ≡ true
     → 0 < length (target parts v)
 some_target [] v some = absurd (let no : false ≡ true = some in cc)
 some_target (p ∷ parts) v some = omega arith
 
-pub path_some : (place : ℕ) (v : Values) → place < length paths
+pub path_some : (place : ℕ) (v : Arguments) → place < length paths
     → 0 < length (target (row_at place).parts v)
 path_some place v within =
     some_target (row_at place).parts v
@@ -123,7 +123,7 @@ name_short (b ∷ bs) true is =
     rw is (omega (arith, few))
 name_short name false is = rw is (omega arith)
 
-part_short : (p : Part) (v : Values) → v.id < 2 ^ 32 → length (part_text p v) + 1 ≤ most p
+part_short : (p : Part) (v : Arguments) → v.id < 2 ^ 32 → length (part_text p v) + 1 ≤ most p
 part_short (lit here) v small = omega arith
 part_short queue v small = name_short v.queue (is_name v.queue) refl
 part_short id v small =
@@ -132,7 +132,7 @@ part_short id v small =
       length-decimal-le 10 v.id (omega arith) (omega (arith, small)) (omega (arith, small)),
     )
 
-target_short : (parts : List Part) (v : Values) → v.id < 2 ^ 32
+target_short : (parts : List Part) (v : Arguments) → v.id < 2 ^ 32
     → length (target parts v) ≤ most_of parts
 target_short [] v small = omega arith
 target_short (p ∷ parts) v small =
@@ -147,7 +147,7 @@ each_short : list_all (λ (r : Row). nat_le (most_of r.parts) 200) paths ≡ tru
 unfolding paths
 each_short = refl
 
-pub path_short : (place : ℕ) (v : Values) → place < length paths → v.id < 2 ^ 32
+pub path_short : (place : ℕ) (v : Arguments) → place < length paths → v.id < 2 ^ 32
     → length (target (row_at place).parts v) ≤ 200
 path_short place v within small =
     let parts = (row_at place).parts in
@@ -155,19 +155,19 @@ path_short place v within small =
     (of_row (λ r. nat_le (most_of r.parts) 200) each_short place within) in
     omega (arith, target_short parts v small, few)
 
-path_all : (place : ℕ) (v : Values) → place < length paths → v.id < 2 ^ 32
+path_all : (place : ℕ) (v : Arguments) → place < length paths → v.id < 2 ^ 32
     → list_all is_path_byte (target (row_at place).parts v) ≡ true
 path_all place v within small =
     target_all (row_at place).parts v small
     (of_row (λ r. list_all stands r.parts) parts_stand place within)
 
-pub path_visible : (place : ℕ) (v : Values) → place < length paths → v.id < 2 ^ 32
+pub path_visible : (place : ℕ) (v : Arguments) → place < length paths → v.id < 2 ^ 32
     → AreVisible (target (row_at place).parts v)
 path_visible place v within small =
     each_so is_path_byte is_host_byte seen (target (row_at place).parts v)
     (path_all place v within small)
 
-pub path_unasked : (place : ℕ) (v : Values) → place < length paths → v.id < 2 ^ 32
+pub path_unasked : (place : ℕ) (v : Arguments) → place < length paths → v.id < 2 ^ 32
     → list_all no_question (target (row_at place).parts v) ≡ true
 path_unasked place v within small =
     each_so is_path_byte no_question unasked (target (row_at place).parts v)

@@ -14,13 +14,13 @@ use Rattle.desk_model.specs.declared.rows.WatchRole.{WatchRole}
 use Rattle.desk_model.specs.declared.rows.WatchRole.TheVariants.{Requestor, Cc, AdminCc}
 use Rattle.desk_forms.specs.Paths.{Row, get, post}
 use Rattle.desk_forms.specs.Table as table
-use Rattle.desk_forms.specs.Table.{act, made, paths, request}
-use Rattle.desk_forms.specs.Values.{Values}
+use Rattle.desk_forms.specs.Table.{act, build_command, paths, request}
+use Rattle.desk_forms.specs.Arguments.{Arguments}
 use Rattle.desk_forms.specs.declared.links.NamedKind.{NamedKind}
 use Rattle.desk_forms.specs.declared.links.NamedKind.TheVariants.{Plain, Inverse}
 use Rattle.desk_forms.specs.declared.paths.Method.{Method}
 use Rattle.desk_forms.specs.declared.paths.Method.TheVariants.{Get, Post}
-use Rattle.desk_forms.specs.declared.table.Form.TheVariants as form
+use Rattle.desk_forms.specs.declared.table.CommandForm.TheVariants as form
 use Rattle.route_core.specs.Commands.{members_for}
 use Rattle.route_core.specs.Members.{texts_in}
 use Rattle.route_core.specs.JsonArguments.{said_by}
@@ -35,24 +35,24 @@ posted_by Get ms = no_members
 posted_by Post ms = ms
 
 abbrev Back : Row → Type 0
-Back row = (v : Values) (many : List (List ℕ)) → CanTell row v
+Back row = (v : Arguments) (many : List (List ℕ)) → CanTell row v
     → said_by row.leads (named row.parts v) (posted_by row.method (members row v many))
-    ≡ Some (made row.leads v many)
+    ≡ Some (build_command row.leads v many)
 
 -- ---- by forms
 
 list_back : Back (get table.requests form.List)
 list_back v many can = rw (can.name refl) refl
 
-open_by : (v : Values) (many : List (List ℕ)) (o : Option (List ℕ)) → v.maybe ≡ o
+open_by : (v : Arguments) (many : List (List ℕ)) (o : Option (List ℕ)) → v.maybe ≡ o
     → said_by form.OpenQueue (named table.queues v)
-    (members (post table.queues form.OpenQueue) v many) ≡ Some (made form.OpenQueue v many)
+    (members (post table.queues form.OpenQueue) v many) ≡ Some (build_command form.OpenQueue v many)
 open_by v many None is = rw is refl
 open_by v many (Some t) is = rw is refl
 
-level_by : (v : Values) (many : List (List ℕ)) (o : Option (List ℕ)) → v.maybe ≡ o
+level_by : (v : Arguments) (many : List (List ℕ)) (o : Option (List ℕ)) → v.maybe ≡ o
     → said_by form.SetLevel (named (act (codes "level")) v)
-    (members (post (act (codes "level")) form.SetLevel) v many) ≡ Some (made form.SetLevel v many)
+    (members (post (act (codes "level")) form.SetLevel) v many) ≡ Some (build_command form.SetLevel v many)
 level_by v many None is = rw is refl
 level_by v many (Some t) is = rw is refl
 
@@ -60,31 +60,31 @@ texts_back : (many : List (List ℕ)) → texts_in (items_of (map string many)) 
 texts_back [] = refl
 texts_back (t ∷ ts) = rw (texts_back ts) refl
 
-create_by : (v : Values) (many : List (List ℕ)) (o : Option (List ℕ)) → v.maybe ≡ o
+create_by : (v : Arguments) (many : List (List ℕ)) (o : Option (List ℕ)) → v.maybe ≡ o
     → is_name v.queue ≡ true
     → said_by form.Create (named table.requests v)
-    (members (post table.requests form.Create) v many) ≡ Some (made form.Create v many)
+    (members (post table.requests form.Create) v many) ≡ Some (build_command form.Create v many)
 create_by v many None is name = rw (is, name, texts_back many) refl
 create_by v many (Some t) is name = rw (is, name, texts_back many) refl
 
-watch_by : (v : Values) (many : List (List ℕ)) (r : WatchRole) → v.role ≡ r
+watch_by : (v : Arguments) (many : List (List ℕ)) (r : WatchRole) → v.role ≡ r
     → said_by form.Watch (named (act (codes "watch")) v)
-    (members (post (act (codes "watch")) form.Watch) v many) ≡ Some (made form.Watch v many)
+    (members (post (act (codes "watch")) form.Watch) v many) ≡ Some (build_command form.Watch v many)
 watch_by v many Requestor is = rw is refl
 watch_by v many Cc is = rw is refl
 watch_by v many AdminCc is = rw is refl
 
-unwatch_by : (v : Values) (many : List (List ℕ)) (r : WatchRole) → v.role ≡ r
+unwatch_by : (v : Arguments) (many : List (List ℕ)) (r : WatchRole) → v.role ≡ r
     → said_by form.Unwatch (named (act (codes "unwatch")) v)
-    (members (post (act (codes "unwatch")) form.Unwatch) v many) ≡ Some (made form.Unwatch v many)
+    (members (post (act (codes "unwatch")) form.Unwatch) v many) ≡ Some (build_command form.Unwatch v many)
 unwatch_by v many Requestor is = rw is refl
 unwatch_by v many Cc is = rw is refl
 unwatch_by v many AdminCc is = rw is refl
 
-link_by : (v : Values) (many : List (List ℕ)) (k : NamedKind) → v.link ≡ k → v.away ≡ false
+link_by : (v : Arguments) (many : List (List ℕ)) (k : NamedKind) → v.link ≡ k → v.delete ≡ false
     → nat_lt v.other (2 ^ 32) ≡ true
     → said_by form.Link (named (act (codes "link")) v)
-    (members (post (act (codes "link")) form.Link) v many) ≡ Some (made form.Link v many)
+    (members (post (act (codes "link")) form.Link) v many) ≡ Some (build_command form.Link v many)
 link_by v many (Plain DependsOn) is plain low = rw (is, plain, low) refl
 link_by v many (Plain MemberOf) is plain low = rw (is, plain, low) refl
 link_by v many (Plain RefersTo) is plain low = rw (is, plain, low) refl
@@ -92,10 +92,10 @@ link_by v many (Inverse DependsOn) is plain low = rw (is, plain, low) refl
 link_by v many (Inverse MemberOf) is plain low = rw (is, plain, low) refl
 link_by v many (Inverse RefersTo) is plain low = rw (is, plain, low) refl
 
-unlink_by : (v : Values) (many : List (List ℕ)) (k : NamedKind) → v.link ≡ k
+unlink_by : (v : Arguments) (many : List (List ℕ)) (k : NamedKind) → v.link ≡ k
     → nat_lt v.other (2 ^ 32) ≡ true
     → said_by form.Unlink (named (act (codes "unlink")) v)
-    (members (post (act (codes "unlink")) form.Unlink) v many) ≡ Some (made form.Unlink v many)
+    (members (post (act (codes "unlink")) form.Unlink) v many) ≡ Some (build_command form.Unlink v many)
 unlink_by v many (Plain DependsOn) is low = rw (is, low) refl
 unlink_by v many (Plain MemberOf) is low = rw (is, low) refl
 unlink_by v many (Plain RefersTo) is low = rw (is, low) refl
@@ -109,7 +109,7 @@ abbrev Backs : List Row → Type 0
 Backs [] = Unit {0}
 Backs (row ∷ rows) = Back row × Backs rows
 
-low : (v : Values) → v.other < 2 ^ 32 → nat_lt v.other (2 ^ 32) ≡ true
+low : (v : Arguments) → v.other < 2 ^ 32 → nat_lt v.other (2 ^ 32) ≡ true
 low v small = lt-ltb v.other (2 ^ 32) small
 
 each_back : Backs paths

@@ -9,12 +9,12 @@ use Rattle.text_core.specs.Form.{is_name}
 use Rattle.settings_core.specs.Tokens.{is_token, is_token_byte}
 use Rattle.desk_model.specs.declared.command.Command.{Command}
 use Rattle.desk_forms.specs.Paths.{Row}
-use Rattle.desk_forms.specs.Table.{made, paths}
-use Rattle.desk_forms.specs.Values.{Values}
+use Rattle.desk_forms.specs.Table.{build_command, paths}
+use Rattle.desk_forms.specs.Arguments.{Arguments}
 use Rattle.desk_forms.specs.declared.paths.Method.{Method}
 use Rattle.desk_forms.specs.declared.paths.Method.TheVariants.{Get, Post}
-use Rattle.desk_forms.specs.declared.table.Form.{Form}
-use Rattle.desk_forms.specs.declared.table.Form.TheVariants as form
+use Rattle.desk_forms.specs.declared.table.CommandForm.{CommandForm}
+use Rattle.desk_forms.specs.declared.table.CommandForm.TheVariants as form
 use Rattle.message_core.specs.Head.{StartsWith}
 use Rattle.message_core.specs.Message.{Reads}
 use Rattle.message_core.specs.declared.fault.WireFault.{WireFault}
@@ -57,7 +57,7 @@ token_seen token is =
     let m = and_parts (nat_le 16 (length token)) (nat_le (length token) 64) k.0 in
     (token_visible token k.1, leb-true (length token) 64 m.1)
 
-read_back : (host token : List ℕ) (place : ℕ) (v : Values) (many : List (List ℕ)) (bytes : List ℕ)
+read_back : (host token : List ℕ) (place : ℕ) (v : Arguments) (many : List (List ℕ)) (bytes : List ℕ)
     → is_host host ≡ true → is_token token ≡ true → place < length paths → v.id < 2 ^ 32
     → (asks : AsksAt host token (row_at place) v many bytes) → (more : List ℕ)
     → Reads (Some (bytes ++ more)) (Some more) (Ok (message_for token (row_at place) v asks.content))
@@ -108,7 +108,7 @@ reads_back host token place v many bytes host_is token_is within small asks =
 -- ---- the command
 
 -- a row whose path has a queue leads to a command that has one
-abbrev on_queue : Form → Bool
+abbrev on_queue : CommandForm → Bool
 on_queue form.List = true
 on_queue form.Create = true
 on_queue other = false
@@ -117,8 +117,8 @@ queues_told : list_all (λ (r : Row). not (has_queue r.parts) || on_queue r.lead
 unfolding paths
 queues_told = refl
 
-its_queue : (leads : Form) (v : Values) (many : List (List ℕ)) (has : Bool)
-    → (not has || on_queue leads) ≡ true → NamesQueue (made leads v many) → has ≡ true
+its_queue : (leads : CommandForm) (v : Arguments) (many : List (List ℕ)) (has : Bool)
+    → (not has || on_queue leads) ≡ true → NamesQueue (build_command leads v many) → has ≡ true
     → is_name v.queue ≡ true
 its_queue form.List v many has told name here = name
 its_queue form.Create v many has told name here = name
@@ -139,7 +139,7 @@ asks_for_it one settings host token person command bytes host_is token_is known 
     let content = asks.asks.content in
     let message = message_for token row v content in
     let path = path_in message.target in
-    let named_so : NamesQueue (made row.leads v many) = subst NamesQueue (sym made_so.makes) names in
+    let named_so : NamesQueue (build_command row.leads v many) = subst NamesQueue (sym made_so.makes) names in
     let told = of_row (λ (r : Row). not (has_queue r.parts) || on_queue r.leads) queues_told place
     made_so.within in
     let can : CanTell row v = record {

@@ -6,7 +6,7 @@ use Rattle.std.proofs.lemmas.List.Sums.{AllPass-from_list_all}
 use Rattle.desk_forms.specs.Paths.{Row, get, path_of}
 use Rattle.desk_forms.specs.Table.{paths}
 use Rattle.desk_forms.specs.declared.paths.Path.{Path as InCode}
-use Rattle.desk_forms.specs.declared.table.Form.TheVariants as form
+use Rattle.desk_forms.specs.declared.table.CommandForm.TheVariants as form
 use Rattle.client_core.specs.Spelled.{row_at}
 
 pub row_is : (rows : List InCode) (i : ℕ) (d : InCode) → map path_of rows ≡ paths → i < length rows

@@ -10,7 +10,7 @@ use Rattle.serde_json.specs.Read.{max_depth}
 use Rattle.serde_json.specs.View.{items_of}
 use Rattle.desk_forms.specs.Kinds.{Argument}
 use Rattle.desk_forms.specs.Paths.{PathParameter, InQueue, Nothing, OnRequest}
-use Rattle.desk_forms.specs.Values.{Values}
+use Rattle.desk_forms.specs.Arguments.{Arguments}
 use Rattle.desk_forms.specs.declared.kinds.Kind.{Kind}
 use Rattle.desk_forms.specs.declared.kinds.Kind.TheVariants as kind
 use Rattle.client_core.specs.Body.{put_if, queue_of, value_of, with_all}
@@ -46,7 +46,7 @@ queue_low Nothing t = omega arith
 queue_low (InQueue name) t = tt
 queue_low (OnRequest n) t = omega arith
 
-value_low : (b : PathParameter) (k : Kind) (v : Values) (many : List (List ℕ)) → Low (value_of b k v many)
+value_low : (b : PathParameter) (k : Kind) (v : Arguments) (many : List (List ℕ)) → Low (value_of b k v many)
 value_low b kind.Id v many = tt
 value_low b (kind.Flag letter) v many = tt
 value_low b kind.Other v many = omega arith
@@ -63,7 +63,7 @@ put_if_shallow : (k : List ℕ) (o : Option Data) (ms : Members) → Low o → S
 put_if_shallow k None ms low all = all
 put_if_shallow k (Some d) ms low all = put_shallow k d ms low all
 
-all_shallow : (b : PathParameter) (args : List Argument) (v : Values) (many : List (List ℕ)) (ms : Members)
+all_shallow : (b : PathParameter) (args : List Argument) (v : Arguments) (many : List (List ℕ)) (ms : Members)
     → Shallow ms → Shallow (with_all b args v many ms)
 all_shallow b [] v many ms all = all
 all_shallow b (a ∷ rest) v many ms all =
@@ -74,7 +74,7 @@ shallow_depth : (ms : Members) → Shallow ms → members_depth ms ≤ 1
 shallow_depth no_members all = omega arith
 shallow_depth (member k d ms) all = omega (arith, all.0, shallow_depth ms all.1)
 
-pub low : (b : PathParameter) (args : List Argument) (v : Values) (many : List (List ℕ)) (ms : Members)
+pub low : (b : PathParameter) (args : List Argument) (v : Arguments) (many : List (List ℕ)) (ms : Members)
     → ms ≡ with_all b args v many no_members → depth (object ms) ≤ max_depth
 low b args v many ms is =
     let flat = shallow_depth (with_all b args v many no_members)

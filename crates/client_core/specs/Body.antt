@@ -8,7 +8,7 @@ use Rattle.serde_json.specs.Read.{read}
 use Rattle.desk_forms.specs.Kinds.{Argument}
 use Rattle.desk_forms.specs.Paths.{PathParameter, InQueue, Row}
 use Rattle.desk_forms.specs.Table.{arguments}
-use Rattle.desk_forms.specs.Values.{Values}
+use Rattle.desk_forms.specs.Arguments.{Arguments}
 use Rattle.desk_forms.specs.declared.kinds.Kind.{Kind}
 use Rattle.desk_forms.specs.declared.kinds.Kind.TheVariants as kind
 use Rattle.desk_forms.specs.declared.paths.Method.{Method}
@@ -22,7 +22,7 @@ queue_of (InQueue name) posted = None
 queue_of _ posted = Some (string posted)
 
 -- what is posted of an argument of the kind, if anything is
-abbrev pub value_of : PathParameter → Kind → Values → List (List ℕ) → Option Data
+abbrev pub value_of : PathParameter → Kind → Arguments → List (List ℕ) → Option Data
 value_of b kind.Id v many = None
 value_of b (kind.Flag letter) v many = None
 value_of b kind.Other v many = Some (number (unsigned v.other))
@@ -39,12 +39,12 @@ put_if key None ms = ms
 put_if key (Some value) ms = put key value ms
 
 -- these members, and what is posted of the arguments
-abbrev pub with_all : PathParameter → List Argument → Values → List (List ℕ) → Members → Members
+abbrev pub with_all : PathParameter → List Argument → Arguments → List (List ℕ) → Members → Members
 with_all b [] v many ms = ms
 with_all b (a ∷ rest) v many ms =
     with_all b rest v many (put_if a.key (value_of b a.kind v many) ms)
 
-abbrev pub members : Row → Values → List (List ℕ) → Members
+abbrev pub members : Row → Arguments → List (List ℕ) → Members
 members row v many = with_all (named row.parts v) (arguments row.leads) v many no_members
 
 -- what is written of these members: nothing for a GET, else a JSON text that reads as their object
@@ -52,5 +52,5 @@ abbrev pub WritesBy : Method → Members → List ℕ → Type 0
 WritesBy Get ms content = content ≡ []
 WritesBy Post ms content = IsUtf8 content × (read content ≡ Some (object ms))
 
-abbrev pub Writes : Row → Values → List (List ℕ) → List ℕ → Type 0
+abbrev pub Writes : Row → Arguments → List (List ℕ) → List ℕ → Type 0
 Writes row v many content = WritesBy row.method (members row v many) content

@@ -4,7 +4,7 @@ use Rattle.std.specs.Prelude.{codes, decimal}
 use Rattle.std.specs.List.{list_all}
 use Rattle.desk_model.specs.declared.command.Command.{Command}
 use Rattle.desk_forms.specs.Paths.{Row}
-use Rattle.desk_forms.specs.Values.{Values}
+use Rattle.desk_forms.specs.Arguments.{Arguments}
 use Rattle.desk_forms.specs.declared.paths.Method.{Method}
 use Rattle.desk_forms.specs.declared.paths.Method.TheVariants.{Get, Post}
 use Rattle.message_core.specs.Limits.{limit_at}
@@ -52,7 +52,7 @@ bytes_with method path host token content =
     method_text method ++ (path ++ (fields host token (length content) ++ content))
 
 -- the bytes of a row of the table with these values
-pub record AsksAt (host token : List ℕ) (row : Row) (v : Values) (many : List (List ℕ))
+pub record AsksAt (host token : List ℕ) (row : Row) (v : Arguments) (many : List (List ℕ))
     (bytes : List ℕ) : Type 0 where
   pub content : List ℕ
   pub writes : Writes row v many content
@@ -62,6 +62,6 @@ pub record AsksAt (host token : List ℕ) (row : Row) (v : Values) (many : List 
 -- the bytes of the row and the values that make the command
 pub record Asks (host token : List ℕ) (command : Command) (bytes : List ℕ) : Type 0 where
   pub place : ℕ
-  pub values : Values
+  pub values : Arguments
   pub makes : Makes place values command
   pub asks : AsksAt host token (row_at place) values (many_of command) bytes

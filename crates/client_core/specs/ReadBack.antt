@@ -10,7 +10,7 @@ use Rattle.desk_model.specs.declared.command.Command.{Command}
 use Rattle.desk_model.specs.declared.command.Command.TheVariants as command
 use Rattle.desk_forms.specs.Paths.{Row}
 use Rattle.desk_forms.specs.Table.{paths}
-use Rattle.desk_forms.specs.Values.{Values}
+use Rattle.desk_forms.specs.Arguments.{Arguments}
 use Rattle.desk_forms.specs.declared.paths.Method.{Method}
 use Rattle.desk_forms.specs.declared.paths.Method.TheVariants.{Get, Post}
 use Rattle.message_core.specs.Message.{Reads}
@@ -25,7 +25,7 @@ use Rattle.client_core.specs.Target.{named, target}
 -- the path of a row leads to just that row, and names what the values say
 abbrev pub LeadsToItsRow : Type 0
 LeadsToItsRow =
-    (place : ℕ) (v : Values) → place < length paths → v.id < 2 ^ 32
+    (place : ℕ) (v : Arguments) → place < length paths → v.id < 2 ^ 32
     → asked_at (row_at place).method (path_in (target (row_at place).parts v))
     ≡ Some (at (row_at place) (named (row_at place).parts v))
 
@@ -34,7 +34,7 @@ method_name Get = codes "GET"
 method_name Post = codes "POST"
 
 -- the message that is written for a row
-abbrev pub message_for : List ℕ → Row → Values → List ℕ → Message
+abbrev pub message_for : List ℕ → Row → Arguments → List ℕ → Message
 message_for token row v content = record {
   method = method_name row.method;
   target = target row.parts v;
@@ -51,7 +51,7 @@ pub record AreReadAs (bytes : List ℕ) (message : Message) : Type 0 where
 -- what is written for a row is read as its message
 abbrev pub ReadsBack : Type 0
 ReadsBack =
-    (host token : List ℕ) (place : ℕ) (v : Values) (many : List (List ℕ)) (bytes : List ℕ)
+    (host token : List ℕ) (place : ℕ) (v : Arguments) (many : List (List ℕ)) (bytes : List ℕ)
     → is_host host ≡ true → is_token token ≡ true → place < length paths → v.id < 2 ^ 32
     → (asks : AsksAt host token (row_at place) v many bytes)
     → AreReadAs bytes (message_for token (row_at place) v asks.content)

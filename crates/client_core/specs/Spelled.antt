@@ -7,11 +7,11 @@ use Rattle.desk_model.specs.declared.rows.LinkKind.TheVariants.{DependsOn, Membe
 use Rattle.desk_model.specs.declared.rows.WatchRole.{WatchRole}
 use Rattle.desk_model.specs.declared.rows.WatchRole.TheVariants.{Requestor, Cc, AdminCc}
 use Rattle.desk_forms.specs.Paths.{Row, get}
-use Rattle.desk_forms.specs.Table.{made, paths}
-use Rattle.desk_forms.specs.Values.{Values}
+use Rattle.desk_forms.specs.Table.{build_command, paths}
+use Rattle.desk_forms.specs.Arguments.{Arguments}
 use Rattle.desk_forms.specs.declared.links.NamedKind.{NamedKind}
 use Rattle.desk_forms.specs.declared.links.NamedKind.TheVariants.{Plain, Inverse}
-use Rattle.desk_forms.specs.declared.table.Form.TheVariants as form
+use Rattle.desk_forms.specs.declared.table.CommandForm.TheVariants as form
 
 -- the row at a place of the table
 abbrev pub row_at : ℕ → Row
@@ -23,10 +23,10 @@ many_of (command.Create queue subject status requestors) = requestors
 many_of _ = []
 
 -- by these values the row's form makes just this command, without a flag; numbers are of 32 bits
-pub record Makes (place : ℕ) (v : Values) (command : Command) : Type 0 where
+pub record Makes (place : ℕ) (v : Arguments) (command : Command) : Type 0 where
   pub within : place < length paths
-  pub makes : made (row_at place).leads v (many_of command) ≡ command
-  pub plain : v.away ≡ false
+  pub makes : build_command (row_at place).leads v (many_of command) ≡ command
+  pub plain : v.delete ≡ false
   pub id : v.id < 2 ^ 32
   pub other : v.other < 2 ^ 32
 

@@ -6,15 +6,15 @@ ghost use Rattle.serde_json.specs.Read.{max_depth, read};
 ghost use Rattle.serde_json.specs.View.{items_of, items_view, members_view, view};
 ghost use Rattle.desk_forms.specs.Kinds.{argument_of};
 ghost use Rattle.desk_forms.specs.Paths.{bound_of, path_of};
-ghost use Rattle.desk_forms.specs.Values.{values_of};
+ghost use Rattle.desk_forms.specs.Arguments.{values_of};
 ghost use Rattle.client_core.specs.Body as spec;
 
 use crate::spelled::{link_name, role_name};
 use crate::target::named;
+use desk_forms::arguments::Arguments;
 use desk_forms::kinds::{Arg, Kind};
 use desk_forms::paths::{Method, Path, PathParameter};
 use desk_forms::table::args_of;
-use desk_forms::values::Values;
 use serde_json::{Map, Value, put};
 use std::alloc::{AllocError, Global};
 use text_core::Text;
@@ -27,7 +27,7 @@ type Members = Map<String, Value>;
 pub(crate) fn body_for(
     alloc: Global,
     row: &Path,
-    values: &Values<'_>,
+    values: &Arguments<'_>,
     many: &[Text],
 ) -> Result<Vec<u8>, AllocError>
     ensures { IfOk result (λ body.
@@ -57,7 +57,7 @@ fn members_of(
     alloc: Global,
     bound: PathParameter<'_>,
     args: &[Arg],
-    values: &Values<'_>,
+    values: &Arguments<'_>,
     many: &[Text],
 ) -> Result<Members, AllocError>
     ensures { IfOk result (λ ms. members_view ms.entries
@@ -92,7 +92,7 @@ fn value_of(
     alloc: Global,
     bound: PathParameter<'_>,
     kind: Kind,
-    values: &Values<'_>,
+    values: &Arguments<'_>,
     many: &[Text],
 ) -> Result<Option<Value>, AllocError>
     ensures { IfOk result (λ value. option_map view value

@@ -3,7 +3,7 @@ ghost use Rattle.std.specs.Prelude.{◌≡◌, ◌≢◌, ◌<◌, ◌≤◌, �
 ghost use Rattle.std.specs.List.{list_all};
 ghost use Rattle.settings_core.specs.Tokens as tokens;
 ghost use Rattle.desk_forms.specs.Paths.{path_of};
-ghost use Rattle.desk_forms.specs.Values.{values_of};
+ghost use Rattle.desk_forms.specs.Arguments.{values_of};
 ghost use Rattle.desk_forms.specs.Table.{paths as table};
 ghost use Rattle.client_core.specs.Message as spec;
 ghost use Rattle.client_core.specs.Spelled as spelled;
@@ -13,9 +13,9 @@ use crate::body::body_for;
 use crate::fault::AskFault;
 use crate::spelled::{many_of, route_and_arguments_of};
 use crate::target::{add_number, add_target, add_text};
+use desk_forms::arguments::Arguments;
 use desk_forms::paths::{Method, Path};
 use desk_forms::table::paths;
-use desk_forms::values::Values;
 use desk_model::Command;
 use std::alloc::{AllocError, Global};
 use text_core::Text;
@@ -117,7 +117,7 @@ fn bytes_to(
     host: &str,
     token: &str,
     row: &Path,
-    values: &Values<'_>,
+    values: &Arguments<'_>,
     many: &[Text],
 ) -> Result<Vec<u8>, AskFault>
     ensures asks { IfOk result (λ out. AsksAt host.now token.now (path_of row.now)

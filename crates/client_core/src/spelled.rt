@@ -1,13 +1,13 @@
 //! Where the table asks for a command, and the values that make it.
 ghost use Rattle.std.specs.Prelude.{◌≡◌, false};
 ghost use Rattle.std.specs.Option.{option_map};
-ghost use Rattle.desk_forms.specs.Values.{values_of};
+ghost use Rattle.desk_forms.specs.Arguments.{values_of};
 ghost use Rattle.desk_forms.specs.declared.links.NamedKind.TheVariants.{Plain};
 ghost use Rattle.client_core.specs.Spelled as spec;
 ghost use Rattle.client_core.specs.Spelled.{Makes};
 
+use desk_forms::arguments::Arguments;
 use desk_forms::links::NamedKind;
-use desk_forms::values::Values;
 use desk_model::{Command, LinkKind, WatchRole};
 use text_core::Text;
 
@@ -15,7 +15,7 @@ use text_core::Text;
 /// command, with its texts. A link is named by its own kind: where words named the inverse, they
 /// have changed its ends already.
 #[tactic(auto, unfolding(desk_forms::specs::Table::paths))]
-pub(crate) fn route_and_arguments_of(command: &Command) -> (usize, Values<'_>)
+pub(crate) fn route_and_arguments_of(command: &Command) -> (usize, Arguments<'_>)
     ensures { Makes result.0 (values_of result.1) command.entry.now }
 {
     match command {
@@ -61,11 +61,11 @@ pub(crate) fn many_of(command: &Command) -> &[Text]
     }
 }
 
-/// Values of which none is seen.
-fn nothing<'c>() -> Values<'c>
-    ensures { result.away ≡ false }
+/// Arguments of which none is seen.
+fn nothing<'c>() -> Arguments<'c>
+    ensures { result.delete ≡ false }
 {
-    Values {
+    Arguments {
         id: 0,
         other: 0,
         queue: "",
@@ -73,82 +73,82 @@ fn nothing<'c>() -> Values<'c>
         maybe: None,
         role: WatchRole::Requestor,
         link: NamedKind::Plain(LinkKind::DependsOn),
-        away: false,
+        delete: false,
     }
 }
 
-fn of_queue(queue: &Text) -> Values<'_>
+fn of_queue(queue: &Text) -> Arguments<'_>
     ensures queue { result.queue.now ≡ queue.entry.now }
-    ensures plain { result.away ≡ false }
+    ensures plain { result.delete ≡ false }
 {
-    Values {
+    Arguments {
         queue: queue.as_str(),
         ..nothing()
     }
 }
 
-fn in_queue<'c>(queue: &'c Text, text: &'c Text, maybe: &'c Option<Text>) -> Values<'c>
+fn in_queue<'c>(queue: &'c Text, text: &'c Text, maybe: &'c Option<Text>) -> Arguments<'c>
     ensures queue { result.queue.now ≡ queue.entry.now }
     ensures text { result.text.now ≡ text.entry.now }
     ensures maybe { option_map (λ t. t.now) result.maybe ≡ maybe.entry.now }
-    ensures plain { result.away ≡ false }
+    ensures plain { result.delete ≡ false }
 {
-    Values {
+    Arguments {
         text: text.as_str(),
         maybe: lent(maybe),
         ..of_queue(queue)
     }
 }
 
-fn on_request<'c>(id: u32) -> Values<'c>
+fn on_request<'c>(id: u32) -> Arguments<'c>
     ensures id { result.id ≡ id }
-    ensures plain { result.away ≡ false }
+    ensures plain { result.delete ≡ false }
 {
-    Values { id, ..nothing() }
+    Arguments { id, ..nothing() }
 }
 
-fn with_text(id: u32, text: &Text) -> Values<'_>
+fn with_text(id: u32, text: &Text) -> Arguments<'_>
     ensures id { result.id ≡ id }
     ensures text { result.text.now ≡ text.entry.now }
-    ensures plain { result.away ≡ false }
+    ensures plain { result.delete ≡ false }
 {
-    Values {
+    Arguments {
         text: text.as_str(),
         ..on_request(id)
     }
 }
 
-fn with_role(id: u32, role: WatchRole, person: &Text) -> Values<'_>
+fn with_role(id: u32, role: WatchRole, person: &Text) -> Arguments<'_>
     ensures id { result.id ≡ id }
     ensures role { result.role ≡ role }
     ensures text { result.text.now ≡ person.entry.now }
-    ensures plain { result.away ≡ false }
+    ensures plain { result.delete ≡ false }
 {
-    Values {
+    Arguments {
         role,
         ..with_text(id, person)
     }
 }
 
-fn with_link<'c>(id: u32, kind: LinkKind, other: u32) -> Values<'c>
+fn with_link<'c>(id: u32, kind: LinkKind, other: u32) -> Arguments<'c>
     ensures id { result.id ≡ id }
     ensures link { result.link ≡ Plain kind }
     ensures other { result.other ≡ other }
-    ensures plain { result.away ≡ false }
+    ensures plain { result.delete ≡ false }
 {
-    Values {
+    Arguments {
         link: NamedKind::Plain(kind),
         other,
         ..on_request(id)
     }
 }
 
-fn with_level(id: u32, level: &Option<Text>) -> Values<'_>
+fn with_level(id: u32, level: &Option<Text>) -> Arguments<'_>
     ensures id { result.id ≡ id }
     ensures maybe { option_map (λ t. t.now) result.maybe ≡ level.entry.now }
-    ensures plain { result.away ≡ false }
+    ensures plain { result.delete ≡ false }
 {
-    Values {
+    Arguments {
         maybe: lent(level),
         ..on_request(id)
     }

@@ -1,11 +1,11 @@
 //! The path at which a command is asked for.
 ghost use Rattle.std.specs.Prelude.{◌≡◌, ◌++◌, IfOk, map, decimal};
 ghost use Rattle.desk_forms.specs.Paths.{bound_of, part_of};
-ghost use Rattle.desk_forms.specs.Values.{values_of};
+ghost use Rattle.desk_forms.specs.Arguments.{values_of};
 ghost use Rattle.client_core.specs.Target as spec;
 
+use desk_forms::arguments::Arguments;
 use desk_forms::paths::{Part, PathParameter};
-use desk_forms::values::Values;
 use itoa::Buffer;
 use std::alloc::AllocError;
 use text_core::is_name;
@@ -14,7 +14,7 @@ use text_core::is_name;
 pub(crate) fn add_target(
     out: &mut Vec<u8>,
     parts: &[Part],
-    values: &Values<'_>,
+    values: &Arguments<'_>,
 ) -> Result<(), AllocError>
     ensures { IfOk result (λ _. out.new.items
         ≡ out.old.items ++ spec.target (map part_of parts.now) (values_of values.now)) }
@@ -26,7 +26,7 @@ pub(crate) fn add_target(
     Ok(())
 }
 
-fn add_part(out: &mut Vec<u8>, part: Part, values: &Values<'_>) -> Result<(), AllocError>
+fn add_part(out: &mut Vec<u8>, part: Part, values: &Arguments<'_>) -> Result<(), AllocError>
     ensures { IfOk result (λ _. out.new.items
         ≡ out.old.items ++ spec.part_text (part_of part) (values_of values.now)) }
 {
@@ -44,7 +44,7 @@ fn queue_text(name: &str) -> &str
 }
 
 /// What these parts name.
-pub(crate) fn named<'v>(parts: &[Part], values: &Values<'v>) -> PathParameter<'v>
+pub(crate) fn named<'v>(parts: &[Part], values: &Arguments<'v>) -> PathParameter<'v>
     ensures { bound_of result ≡ spec.named (map part_of parts.now) (values_of values.now) }
 {
     for part in parts {

@@ -14,14 +14,14 @@ use Rattle.desk_forms.specs.Paths as path
 use Rattle.desk_forms.specs.Paths.{InQueue, Nothing, OnRequest, Part}
 use Rattle.desk_forms.specs.Roles.{role_named}
 use Rattle.desk_forms.specs.ArgumentSource.{ArgumentSource}
-use Rattle.desk_forms.specs.Table.{arguments, made, paths, words}
-use Rattle.desk_forms.specs.Values.{blank}
+use Rattle.desk_forms.specs.Table.{arguments, build_command, paths, words}
+use Rattle.desk_forms.specs.Arguments.{no_arguments}
 use Rattle.desk_forms.specs.Words.{asks, row_in}
 use Rattle.desk_forms.specs.declared.paths.Method.{Method}
 use Rattle.desk_forms.specs.declared.paths.Method.TheVariants.{Get, Post}
-use Rattle.desk_forms.specs.declared.table.Form.{Form}
+use Rattle.desk_forms.specs.declared.table.CommandForm.{CommandForm}
 use Rattle.desk_forms.specs.declared.links.NamedKind.TheVariants.{Plain, Inverse}
-use Rattle.desk_forms.specs.declared.table.Form.TheVariants as form
+use Rattle.desk_forms.specs.declared.table.CommandForm.TheVariants as form
 
 -- Number.antt
 
@@ -116,16 +116,16 @@ unfolding words
 no_word = refl
 
 resolving_is_a_move :
-    made form.Resolve (record blank { id = 7 }) [] ≡ command.SetStatus 7 (codes "resolved")
+    build_command form.Resolve (record no_arguments { id = 7 }) [] ≡ command.SetStatus 7 (codes "resolved")
 resolving_is_a_move = refl
 
 -- whether or not a sign says so
 unlinking_unlinks :
-    made form.Unlink (record blank { id = 7; other = 8 }) [] ≡ command.Unlink 7 DependsOn 8
+    build_command form.Unlink (record no_arguments { id = 7; other = 8 }) [] ≡ command.Unlink 7 DependsOn 8
 unlinking_unlinks = refl
 
 linking_by_a_sign_unlinks :
-    made form.Link (record blank { id = 7; other = 8; away = true }) []
+    build_command form.Link (record no_arguments { id = 7; other = 8; delete = true }) []
     ≡ command.Unlink 7 DependsOn 8
 linking_by_a_sign_unlinks = refl
 
@@ -216,7 +216,7 @@ is_method Post Post = true
 is_method a b = false
 
 -- the forms of all rows that have both
-abbrev led_to : Method → List Part → List Form
+abbrev led_to : Method → List Part → List CommandForm
 led_to method parts =
     map (λ row. row.leads)
     (filter (λ row. is_method row.method method && are_parts row.parts parts) paths)

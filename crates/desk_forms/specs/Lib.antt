@@ -1,4 +1,6 @@
 pub use Rattle.text_core.specs.Form
+pub mod ArgumentSource
+pub mod Arguments
 pub mod Asked
 pub mod Keys
 pub mod Kinds
@@ -7,7 +9,5 @@ pub mod Links
 pub mod Number
 pub mod Paths
 pub mod Roles
-pub mod ArgumentSource
 pub mod Table
-pub mod Values
 pub mod Words

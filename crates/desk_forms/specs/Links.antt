@@ -20,10 +20,10 @@ kind_named word =
     else None
 
 abbrev pub link_or_unlink : Bool → ℕ → LinkKind → ℕ → Command
-link_or_unlink away id kind other =
-    if away then command.Unlink id kind other else command.Link id kind other
+link_or_unlink delete id kind other =
+    if delete then command.Unlink id kind other else command.Link id kind other
 
 -- by an inverse the two requests change places
 abbrev pub linking : Bool → ℕ → NamedKind → ℕ → Command
-linking away id (Plain kind) other = link_or_unlink away id kind other
-linking away id (Inverse kind) other = link_or_unlink away other kind id
+linking delete id (Plain kind) other = link_or_unlink delete id kind other
+linking delete id (Inverse kind) other = link_or_unlink delete other kind id

@@ -1,6 +1,6 @@
 -- The paths at which commands are asked for, and what a path names.
 use Rattle.std.specs.Prelude.{ℕ, List, map}
-use Rattle.desk_forms.specs.declared.table.Form.{Form}
+use Rattle.desk_forms.specs.declared.table.CommandForm.{CommandForm}
 use Rattle.desk_forms.specs.declared.paths.PathParameter.{PathParameter as BoundInCode}
 use Rattle.desk_forms.specs.declared.paths.PathParameter.TheVariants as bound
 use Rattle.desk_forms.specs.declared.paths.Method.{Method}
@@ -25,12 +25,12 @@ pub data PathParameter : Type 0 where
 pub record Row : Type 0 where
   pub method : Method
   pub parts : List Part
-  pub leads : Form
+  pub leads : CommandForm
 
-abbrev pub get : List Part → Form → Row
+abbrev pub get : List Part → CommandForm → Row
 get parts leads = record { method = Get; parts = parts; leads = leads }
 
-abbrev pub post : List Part → Form → Row
+abbrev pub post : List Part → CommandForm → Row
 post parts leads = record { method = Post; parts = parts; leads = leads }
 
 -- ---- the same as the code holds it

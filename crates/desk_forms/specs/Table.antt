@@ -7,13 +7,13 @@ use Rattle.desk_forms.specs.Links.{linking}
 use Rattle.desk_forms.specs.Kinds.{Argument, is}
 use Rattle.desk_forms.specs.Paths as path
 use Rattle.desk_forms.specs.Paths.{Part, get, lit, post}
-use Rattle.desk_forms.specs.Values.{Values}
+use Rattle.desk_forms.specs.Arguments.{Arguments}
 use Rattle.desk_forms.specs.Words as word
 use Rattle.desk_forms.specs.Words.{asks}
 use Rattle.desk_forms.specs.declared.kinds.Kind.TheVariants.{Id, Other, Queue, Text, Role, Link}
 use Rattle.desk_forms.specs.declared.kinds.Kind.TheVariants.{Maybe, Named, Many, Flag}
-use Rattle.desk_forms.specs.declared.table.Form.{Form}
-use Rattle.desk_forms.specs.declared.table.Form.TheVariants as form
+use Rattle.desk_forms.specs.declared.table.CommandForm.{CommandForm}
+use Rattle.desk_forms.specs.declared.table.CommandForm.TheVariants as form
 
 abbrev pub id : Argument
 id = is (codes "id") Id
@@ -25,7 +25,7 @@ abbrev pub watcher : List Argument
 watcher = id ∷ is (codes "role") Role ∷ is (codes "person") Text ∷ []
 
 -- what a command of the form is given, in order
-abbrev pub arguments : Form → List Argument
+abbrev pub arguments : CommandForm → List Argument
 arguments form.OpenQueue =
     is (codes "queue") Queue ∷ is (codes "lifecycle") Text ∷ is (codes "level") Maybe ∷ []
 arguments form.Create =
@@ -118,25 +118,25 @@ paths =
     ∷ []
 
 -- the command that values make
-abbrev pub made : Form → Values → List (List ℕ) → Command
-made form.OpenQueue v many = command.OpenQueue v.queue v.text v.maybe
-made form.Create v many = command.Create v.queue v.text v.maybe many
-made form.SetStatus v many = command.SetStatus v.id v.text
-made form.Resolve v many = command.SetStatus v.id (codes "resolved")
-made form.SetLevel v many = command.SetLevel v.id v.maybe
-made form.Take v many = command.Take v.id
-made form.Steal v many = command.Steal v.id
-made form.Untake v many = command.Untake v.id
-made form.Give v many = command.Give v.id v.text
-made form.Watch v many = command.Watch v.id v.role v.text
-made form.Unwatch v many = command.Unwatch v.id v.role v.text
-made form.Reply v many = command.Reply v.id v.text
-made form.Comment v many = command.Comment v.id v.text
-made form.Link v many = linking v.away v.id v.link v.other
-made form.Unlink v many = linking true v.id v.link v.other
-made form.Queues v many = command.Queues
-made form.Show v many = command.Show v.id
-made form.List v many = command.List v.queue
-made form.History v many = command.History v.id
-made form.Overdue v many = command.Overdue
-made form.Workload v many = command.Workload
+abbrev pub build_command : CommandForm → Arguments → List (List ℕ) → Command
+build_command form.OpenQueue v many = command.OpenQueue v.queue v.text v.maybe
+build_command form.Create v many = command.Create v.queue v.text v.maybe many
+build_command form.SetStatus v many = command.SetStatus v.id v.text
+build_command form.Resolve v many = command.SetStatus v.id (codes "resolved")
+build_command form.SetLevel v many = command.SetLevel v.id v.maybe
+build_command form.Take v many = command.Take v.id
+build_command form.Steal v many = command.Steal v.id
+build_command form.Untake v many = command.Untake v.id
+build_command form.Give v many = command.Give v.id v.text
+build_command form.Watch v many = command.Watch v.id v.role v.text
+build_command form.Unwatch v many = command.Unwatch v.id v.role v.text
+build_command form.Reply v many = command.Reply v.id v.text
+build_command form.Comment v many = command.Comment v.id v.text
+build_command form.Link v many = linking v.delete v.id v.link v.other
+build_command form.Unlink v many = linking true v.id v.link v.other
+build_command form.Queues v many = command.Queues
+build_command form.Show v many = command.Show v.id
+build_command form.List v many = command.List v.queue
+build_command form.History v many = command.History v.id
+build_command form.Overdue v many = command.Overdue
+build_command form.Workload v many = command.Workload

@@ -1,15 +1,15 @@
 -- The words of commands.
 use Rattle.std.specs.Prelude.{ℕ, Bool, List, Option, find}
 use Rattle.std.specs.Str.{bytes_eq}
-use Rattle.desk_forms.specs.declared.table.Form.{Form}
+use Rattle.desk_forms.specs.declared.table.CommandForm.{CommandForm}
 use Rattle.desk_forms.specs.declared.words.Word.{Word}
 
 -- a word and the form of the command for which it asks
 pub record Row : Type 0 where
   pub word : List ℕ
-  pub leads : Form
+  pub leads : CommandForm
 
-abbrev pub asks : List ℕ → Form → Row
+abbrev pub asks : List ℕ → CommandForm → Row
 asks word leads = record { word = word; leads = leads }
 
 abbrev pub is_named : List ℕ → Row → Bool

@@ -6,14 +6,14 @@ ghost use Rattle.desk_forms.specs.Asked as asked;
 ghost use Rattle.desk_forms.specs.ArgumentSource as spec;
 ghost use Rattle.desk_forms.specs.Table.{arguments};
 ghost use Rattle.desk_forms.specs.Kinds.{argument_of};
-ghost use Rattle.desk_forms.specs.Values as values;
-ghost use Rattle.desk_forms.specs.Values.{values_of};
+ghost use Rattle.desk_forms.specs.Arguments as values;
+ghost use Rattle.desk_forms.specs.Arguments.{values_of};
 
+use crate::arguments::{Arguments, no_arguments};
 use crate::kinds::{Arg, Kind};
 use crate::links::kind_named;
 use crate::roles::role_named;
-use crate::table::{Form, args_of, made};
-use crate::values::{Values, blank};
+use crate::table::{CommandForm, args_of, build_command};
 use desk_model::Command;
 use std::alloc::{AllocError, Global};
 use text_core::Texts;
@@ -59,7 +59,7 @@ pub trait ArgumentSource {
 /// The command of a form for which the sheet asks, if it gives what the form needs.
 pub fn asked<S: ArgumentSource>(
     alloc: Global,
-    of: Form,
+    of: CommandForm,
     sheet: &S,
 ) -> Result<Option<Command>, AllocError>
     ensures { IfOk result (λ c. c ≡ asked.asked of (S.sheet sheet.now)) }
@@ -68,8 +68,8 @@ pub fn asked<S: ArgumentSource>(
     let Some(many) = many_in(alloc, args, sheet)? else {
         return Ok(None);
     };
-    match put_all(args, sheet, blank()) {
-        Some(v) => Ok(Some(made(alloc, of, &v, many.as_slice())?)),
+    match put_all(args, sheet, no_arguments()) {
+        Some(v) => Ok(Some(build_command(alloc, of, &v, many.as_slice())?)),
         None => Ok(None),
     }
 }
@@ -78,12 +78,12 @@ pub fn asked<S: ArgumentSource>(
 fn put_all<'s, S: ArgumentSource>(
     args: &[Arg],
     sheet: &'s S,
-    blank: Values<'s>,
-) -> Option<Values<'s>>
+    no_arguments: Arguments<'s>,
+) -> Option<Arguments<'s>>
     ensures { option_map values_of result
-        ≡ values.put_all (map argument_of args.now) (S.sheet sheet.now) (values_of blank.entry) }
+        ≡ values.put_all (map argument_of args.now) (S.sheet sheet.now) (values_of no_arguments.entry) }
 {
-    let mut v = blank;
+    let mut v = no_arguments;
     for arg in args {
         match put(arg.1, arg.0, sheet, v) {
             Some(more) => v = more,
@@ -98,47 +98,47 @@ fn put<'s, S: ArgumentSource>(
     kind: Kind,
     key: &str,
     sheet: &'s S,
-    v: Values<'s>,
-) -> Option<Values<'s>>
+    v: Arguments<'s>,
+) -> Option<Arguments<'s>>
     ensures { option_map values_of result
         ≡ values.put kind key.now (S.sheet sheet.now) (values_of v.entry) }
 {
     match kind {
-        Kind::Id => Some(Values {
+        Kind::Id => Some(Arguments {
             id: sheet.id(key)?,
             ..v
         }),
-        Kind::Other => Some(Values {
+        Kind::Other => Some(Arguments {
             other: sheet.number(key)?,
             ..v
         }),
-        Kind::Queue => Some(Values {
+        Kind::Queue => Some(Arguments {
             queue: sheet.queue(key)?,
             ..v
         }),
-        Kind::Text => Some(Values {
+        Kind::Text => Some(Arguments {
             text: sheet.text(key)?,
             ..v
         }),
-        Kind::Role => Some(Values {
+        Kind::Role => Some(Arguments {
             role: role_named(sheet.text(key)?)?,
             ..v
         }),
-        Kind::Link => Some(Values {
+        Kind::Link => Some(Arguments {
             link: kind_named(sheet.text(key)?)?,
             ..v
         }),
-        Kind::Maybe => Some(Values {
+        Kind::Maybe => Some(Arguments {
             maybe: sheet.maybe(key)?,
             ..v
         }),
-        Kind::Named => Some(Values {
+        Kind::Named => Some(Arguments {
             maybe: sheet.maybe(key)?,
             ..v
         }),
         Kind::Many => Some(v),
-        Kind::Flag(_) => Some(Values {
-            away: sheet.is_set(key),
+        Kind::Flag(_) => Some(Arguments {
+            delete: sheet.is_set(key),
             ..v
         }),
     }

@@ -9,6 +9,7 @@
 //!   inverse changes the ends.
 #![tactic(auto)]
 
+pub mod arguments;
 pub mod asked;
 pub mod keys;
 pub mod kinds;
@@ -18,7 +19,6 @@ pub mod number;
 pub mod paths;
 pub mod roles;
 pub mod table;
-pub mod values;
 pub mod words;
 
 pub use number::number_of_word;

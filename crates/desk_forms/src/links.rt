@@ -17,19 +17,19 @@ pub enum NamedKind {
 
 /// The command that puts the link, or that takes it away. By an inverse the two requests change
 /// places.
-pub fn linking(away: bool, id: u32, kind: NamedKind, other: u32) -> Command
-    ensures { result ≡ links.linking away id kind other }
+pub fn linking(delete: bool, id: u32, kind: NamedKind, other: u32) -> Command
+    ensures { result ≡ links.linking delete id kind other }
 {
     match kind {
-        NamedKind::Plain(kind) => link_or_unlink(away, id, kind, other),
-        NamedKind::Inverse(kind) => link_or_unlink(away, other, kind, id),
+        NamedKind::Plain(kind) => link_or_unlink(delete, id, kind, other),
+        NamedKind::Inverse(kind) => link_or_unlink(delete, other, kind, id),
     }
 }
 
-fn link_or_unlink(away: bool, id: u32, kind: LinkKind, other: u32) -> Command
-    ensures { result ≡ links.link_or_unlink away id kind other }
+fn link_or_unlink(delete: bool, id: u32, kind: LinkKind, other: u32) -> Command
+    ensures { result ≡ links.link_or_unlink delete id kind other }
 {
-    if away {
+    if delete {
         Command::Unlink { id, kind, other }
     } else {
         Command::Link { id, kind, other }

@@ -1,6 +1,6 @@
 //! The paths at which commands are asked for, and what a path names.
 
-use crate::table::Form;
+use crate::table::CommandForm;
 
 #[derive(Clone, Copy)]
 pub enum Method {
@@ -21,7 +21,7 @@ pub enum Part {
 
 /// A method, a path, and the form of the command for which they ask.
 #[derive(Clone, Copy)]
-pub struct Path(pub Method, pub &'static [Part], pub Form);
+pub struct Path(pub Method, pub &'static [Part], pub CommandForm);
 
 /// What the parts of a path name.
 #[derive(Clone, Copy)]

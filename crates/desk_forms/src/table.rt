@@ -6,15 +6,15 @@ ghost use Rattle.std.specs.Option.{option_map};
 ghost use Rattle.desk_forms.specs.Kinds.{argument_of};
 ghost use Rattle.desk_forms.specs.Paths.{path_of};
 ghost use Rattle.desk_forms.specs.Table as table;
-ghost use Rattle.desk_forms.specs.Values.{values_of};
+ghost use Rattle.desk_forms.specs.Arguments.{values_of};
 ghost use Rattle.desk_forms.specs.Words.{word_of};
 
+use crate::arguments::{Arguments, copied, copies};
 use crate::kinds::Arg;
 use crate::kinds::Kind::{Flag, Id, Link, Many, Maybe, Named, Other, Queue, Role, Text as Words};
 use crate::links::linking;
 use crate::paths::Method::{Get, Post};
 use crate::paths::{Part, Path};
-use crate::values::{Values, copied, copies};
 use crate::words::Word;
 use desk_model::Command;
 use std::alloc::{AllocError, Global};
@@ -22,7 +22,7 @@ use text_core::Text;
 
 /// The form of a command.
 #[derive(Clone, Copy)]
-pub enum Form {
+pub enum CommandForm {
     OpenQueue,
     Create,
     SetStatus,
@@ -85,55 +85,55 @@ static LINK: [Arg; 4] = [
 ];
 
 /// What a command of the form is given, in order.
-pub fn args_of(of: Form) -> &'static [Arg]
+pub fn args_of(of: CommandForm) -> &'static [Arg]
     ensures { map argument_of result.now ≡ table.arguments of }
 {
     match of {
-        Form::OpenQueue => &OPEN_QUEUE,
-        Form::Create => &CREATE,
-        Form::SetStatus => &ID_STATUS,
-        Form::Resolve => &ID,
-        Form::SetLevel => &ID_LEVEL,
-        Form::Take => &ID,
-        Form::Steal => &ID,
-        Form::Untake => &ID,
-        Form::Give => &ID_PERSON,
-        Form::Watch => &ID_ROLE_PERSON,
-        Form::Unwatch => &ID_ROLE_PERSON,
-        Form::Reply => &ID_TEXT,
-        Form::Comment => &ID_TEXT,
-        Form::Link => &LINK,
-        Form::Unlink => &LINK,
-        Form::Queues => &NOTHING,
-        Form::Show => &ID,
-        Form::List => &QUEUE,
-        Form::History => &ID,
-        Form::Overdue => &NOTHING,
-        Form::Workload => &NOTHING,
+        CommandForm::OpenQueue => &OPEN_QUEUE,
+        CommandForm::Create => &CREATE,
+        CommandForm::SetStatus => &ID_STATUS,
+        CommandForm::Resolve => &ID,
+        CommandForm::SetLevel => &ID_LEVEL,
+        CommandForm::Take => &ID,
+        CommandForm::Steal => &ID,
+        CommandForm::Untake => &ID,
+        CommandForm::Give => &ID_PERSON,
+        CommandForm::Watch => &ID_ROLE_PERSON,
+        CommandForm::Unwatch => &ID_ROLE_PERSON,
+        CommandForm::Reply => &ID_TEXT,
+        CommandForm::Comment => &ID_TEXT,
+        CommandForm::Link => &LINK,
+        CommandForm::Unlink => &LINK,
+        CommandForm::Queues => &NOTHING,
+        CommandForm::Show => &ID,
+        CommandForm::List => &QUEUE,
+        CommandForm::History => &ID,
+        CommandForm::Overdue => &NOTHING,
+        CommandForm::Workload => &NOTHING,
     }
 }
 
 static WORDS: [Word; 20] = [
-    Word("queue", Form::OpenQueue),
-    Word("create", Form::Create),
-    Word("status", Form::SetStatus),
-    Word("resolve", Form::Resolve),
-    Word("level", Form::SetLevel),
-    Word("take", Form::Take),
-    Word("steal", Form::Steal),
-    Word("untake", Form::Untake),
-    Word("give", Form::Give),
-    Word("watch", Form::Watch),
-    Word("unwatch", Form::Unwatch),
-    Word("correspond", Form::Reply),
-    Word("comment", Form::Comment),
-    Word("link", Form::Link),
-    Word("queues", Form::Queues),
-    Word("show", Form::Show),
-    Word("ls", Form::List),
-    Word("history", Form::History),
-    Word("overdue", Form::Overdue),
-    Word("workload", Form::Workload),
+    Word("queue", CommandForm::OpenQueue),
+    Word("create", CommandForm::Create),
+    Word("status", CommandForm::SetStatus),
+    Word("resolve", CommandForm::Resolve),
+    Word("level", CommandForm::SetLevel),
+    Word("take", CommandForm::Take),
+    Word("steal", CommandForm::Steal),
+    Word("untake", CommandForm::Untake),
+    Word("give", CommandForm::Give),
+    Word("watch", CommandForm::Watch),
+    Word("unwatch", CommandForm::Unwatch),
+    Word("correspond", CommandForm::Reply),
+    Word("comment", CommandForm::Comment),
+    Word("link", CommandForm::Link),
+    Word("queues", CommandForm::Queues),
+    Word("show", CommandForm::Show),
+    Word("ls", CommandForm::List),
+    Word("history", CommandForm::History),
+    Word("overdue", CommandForm::Overdue),
+    Word("workload", CommandForm::Workload),
 ];
 
 /// All words, in order.
@@ -145,86 +145,86 @@ pub fn words() -> &'static [Word]
 }
 
 static PATHS: [Path; 20] = [
-    Path(Get, &[Part::Lit("queues")], Form::Queues),
-    Path(Post, &[Part::Lit("queues")], Form::OpenQueue),
+    Path(Get, &[Part::Lit("queues")], CommandForm::Queues),
+    Path(Post, &[Part::Lit("queues")], CommandForm::OpenQueue),
     Path(
         Get,
         &[Part::Lit("queues"), Part::Queue, Part::Lit("requests")],
-        Form::List,
+        CommandForm::List,
     ),
     Path(
         Post,
         &[Part::Lit("queues"), Part::Queue, Part::Lit("requests")],
-        Form::Create,
+        CommandForm::Create,
     ),
-    Path(Get, &[Part::Lit("requests"), Part::Id], Form::Show),
+    Path(Get, &[Part::Lit("requests"), Part::Id], CommandForm::Show),
     Path(
         Get,
         &[Part::Lit("requests"), Part::Id, Part::Lit("history")],
-        Form::History,
+        CommandForm::History,
     ),
     Path(
         Post,
         &[Part::Lit("requests"), Part::Id, Part::Lit("status")],
-        Form::SetStatus,
+        CommandForm::SetStatus,
     ),
     Path(
         Post,
         &[Part::Lit("requests"), Part::Id, Part::Lit("take")],
-        Form::Take,
+        CommandForm::Take,
     ),
     Path(
         Post,
         &[Part::Lit("requests"), Part::Id, Part::Lit("steal")],
-        Form::Steal,
+        CommandForm::Steal,
     ),
     Path(
         Post,
         &[Part::Lit("requests"), Part::Id, Part::Lit("untake")],
-        Form::Untake,
+        CommandForm::Untake,
     ),
     Path(
         Post,
         &[Part::Lit("requests"), Part::Id, Part::Lit("give")],
-        Form::Give,
+        CommandForm::Give,
     ),
     Path(
         Post,
         &[Part::Lit("requests"), Part::Id, Part::Lit("reply")],
-        Form::Reply,
+        CommandForm::Reply,
     ),
     Path(
         Post,
         &[Part::Lit("requests"), Part::Id, Part::Lit("comment")],
-        Form::Comment,
+        CommandForm::Comment,
     ),
     Path(
         Post,
         &[Part::Lit("requests"), Part::Id, Part::Lit("watch")],
-        Form::Watch,
+        CommandForm::Watch,
     ),
     Path(
         Post,
         &[Part::Lit("requests"), Part::Id, Part::Lit("unwatch")],
-        Form::Unwatch,
+        CommandForm::Unwatch,
     ),
     Path(
         Post,
         &[Part::Lit("requests"), Part::Id, Part::Lit("link")],
-        Form::Link,
+        CommandForm::Link,
     ),
     Path(
         Post,
         &[Part::Lit("requests"), Part::Id, Part::Lit("unlink")],
-        Form::Unlink,
+        CommandForm::Unlink,
     ),
     Path(
         Post,
         &[Part::Lit("requests"), Part::Id, Part::Lit("level")],
-        Form::SetLevel,
+        CommandForm::SetLevel,
     ),
-    Path(Get, &[Part::Lit("overdue")], Form::Overdue),
-    Path(Get, &[Part::Lit("workload")], Form::Workload),
+    Path(Get, &[Part::Lit("overdue")], CommandForm::Overdue),
+    Path(Get, &[Part::Lit("workload")], CommandForm::Workload),
 ];
 
 /// All paths, in order.
@@ -236,72 +236,72 @@ pub fn paths() -> &'static [Path]
 }
 
 /// The command that values make, of copies of their texts.
-pub(crate) fn made(
+pub(crate) fn build_command(
     alloc: Global,
-    of: Form,
-    v: &Values<'_>,
+    of: CommandForm,
+    v: &Arguments<'_>,
     many: &[Text],
 ) -> Result<Command, AllocError>
-    ensures { IfOk result (λ c. c ≡ table.made of (values_of v.now) many.now) }
+    ensures { IfOk result (λ c. c ≡ table.build_command of (values_of v.now) many.now) }
 {
     match of {
-        Form::OpenQueue => Ok(Command::OpenQueue {
+        CommandForm::OpenQueue => Ok(Command::OpenQueue {
             queue: Text::new(alloc, v.queue)?,
             lifecycle: Text::new(alloc, v.text)?,
             level: copied(alloc, v.maybe)?,
         }),
-        Form::Create => create(alloc, v, many),
-        Form::SetStatus => Ok(Command::SetStatus {
+        CommandForm::Create => create(alloc, v, many),
+        CommandForm::SetStatus => Ok(Command::SetStatus {
             id: v.id,
             status: Text::new(alloc, v.text)?,
         }),
-        Form::Resolve => Ok(Command::SetStatus {
+        CommandForm::Resolve => Ok(Command::SetStatus {
             id: v.id,
             status: Text::new(alloc, "resolved")?,
         }),
-        Form::SetLevel => Ok(Command::SetLevel {
+        CommandForm::SetLevel => Ok(Command::SetLevel {
             id: v.id,
             level: copied(alloc, v.maybe)?,
         }),
-        Form::Take => Ok(Command::Take { id: v.id }),
-        Form::Steal => Ok(Command::Steal { id: v.id }),
-        Form::Untake => Ok(Command::Untake { id: v.id }),
-        Form::Give => Ok(Command::Give {
+        CommandForm::Take => Ok(Command::Take { id: v.id }),
+        CommandForm::Steal => Ok(Command::Steal { id: v.id }),
+        CommandForm::Untake => Ok(Command::Untake { id: v.id }),
+        CommandForm::Give => Ok(Command::Give {
             id: v.id,
             person: Text::new(alloc, v.text)?,
         }),
-        Form::Watch => Ok(Command::Watch {
+        CommandForm::Watch => Ok(Command::Watch {
             id: v.id,
             role: v.role,
             person: Text::new(alloc, v.text)?,
         }),
-        Form::Unwatch => Ok(Command::Unwatch {
+        CommandForm::Unwatch => Ok(Command::Unwatch {
             id: v.id,
             role: v.role,
             person: Text::new(alloc, v.text)?,
         }),
-        Form::Reply => Ok(Command::Reply {
+        CommandForm::Reply => Ok(Command::Reply {
             id: v.id,
             text: Text::new(alloc, v.text)?,
         }),
-        Form::Comment => Ok(Command::Comment {
+        CommandForm::Comment => Ok(Command::Comment {
             id: v.id,
             text: Text::new(alloc, v.text)?,
         }),
-        Form::Link => Ok(linking(v.away, v.id, v.link, v.other)),
-        Form::Unlink => Ok(linking(true, v.id, v.link, v.other)),
-        Form::Queues => Ok(Command::Queues),
-        Form::Show => Ok(Command::Show { id: v.id }),
-        Form::List => Ok(Command::List {
+        CommandForm::Link => Ok(linking(v.delete, v.id, v.link, v.other)),
+        CommandForm::Unlink => Ok(linking(true, v.id, v.link, v.other)),
+        CommandForm::Queues => Ok(Command::Queues),
+        CommandForm::Show => Ok(Command::Show { id: v.id }),
+        CommandForm::List => Ok(Command::List {
             queue: Text::new(alloc, v.queue)?,
         }),
-        Form::History => Ok(Command::History { id: v.id }),
-        Form::Overdue => Ok(Command::Overdue),
-        Form::Workload => Ok(Command::Workload),
+        CommandForm::History => Ok(Command::History { id: v.id }),
+        CommandForm::Overdue => Ok(Command::Overdue),
+        CommandForm::Workload => Ok(Command::Workload),
     }
 }
 
-fn create(alloc: Global, v: &Values<'_>, many: &[Text]) -> Result<Command, AllocError>
+fn create(alloc: Global, v: &Arguments<'_>, many: &[Text]) -> Result<Command, AllocError>
     ensures { IfOk result (λ c.
         c ≡ Command.Create v.now.queue.now v.now.text.now
         (option_map (λ t. t.now) v.now.maybe) many.now) }

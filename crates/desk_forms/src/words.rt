@@ -5,11 +5,11 @@ ghost use Rattle.std.specs.Option.{option_map};
 ghost use Rattle.desk_forms.specs.Table as table;
 ghost use Rattle.desk_forms.specs.Words as words;
 
-use crate::table::{Form, words};
+use crate::table::{CommandForm, words};
 
 /// The word that asks for a command of a form.
 #[derive(Clone, Copy)]
-pub struct Word(pub &'static str, pub Form);
+pub struct Word(pub &'static str, pub CommandForm);
 
 /// The first of these rows with this word, if there is one.
 fn row_in(rows: &[Word], word: &str) -> Option<Word>

@@ -1,6 +1,6 @@
 -- The markup of the pages of a search.
 use Rattle.std.proofs.Common.{◌≡◌, ℕ, Bool, true, List, [], ◌∷◌, map, not, refl, ap}
-use Rattle.find_form.specs.Sought.{is_word}
+use Rattle.find_form.specs.SearchFields.{is_word}
 use Rattle.find_form.specs.declared.form.FindForm.{FindForm}
 use Rattle.find_form.specs.declared.shown.FoundPage.{FoundPage}
 use Rattle.find_form.specs.declared.shown.Start.{Start}

@@ -1,7 +1,7 @@
 -- The page of a search: what is sought, and what was found.
 use Rattle.std.specs.Prelude.{ℕ, ◌==◌, Bool, true, not, ◌&&◌, ◌||◌, List, [], ◌∷◌, ◌++◌, Option}
 use Rattle.std.specs.Prelude.{codes}
-use Rattle.find_form.specs.Sought.{is_word}
+use Rattle.find_form.specs.SearchFields.{is_word}
 use Rattle.find_form.specs.declared.form.FindForm.{FindForm}
 use Rattle.find_form.specs.declared.shown.FoundPage.{FoundPage}
 use Rattle.find_form.specs.declared.shown.Start.{Start}

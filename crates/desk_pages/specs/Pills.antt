@@ -2,7 +2,7 @@
 use Rattle.std.specs.Prelude.{ℕ, Bool, not, ◌&&◌, if◌then◌else◌, List, [], ◌∷◌, codes}
 use Rattle.std.specs.Str.{bytes_eq}
 use Rattle.find_form.specs.Query.{others_of}
-use Rattle.find_form.specs.Sought.{is_empty, is_me, is_nobody, is_ticked}
+use Rattle.find_form.specs.SearchFields.{is_empty, is_me, is_nobody, is_ticked}
 use Rattle.find_form.specs.declared.form.FindForm.{FindForm}
 use Rattle.page_core.specs.Page.{Part}
 use Rattle.page_core.specs.Template.{filled}

@@ -1,7 +1,7 @@
 -- The form for a search, with what was typed.
 use Rattle.std.specs.Prelude.{ℕ, Bool, List, [], ◌∷◌, ◌||◌, codes}
 use Rattle.std.specs.Str.{bytes_eq}
-use Rattle.find_form.specs.Sought.{is_empty, is_ticked}
+use Rattle.find_form.specs.SearchFields.{is_empty, is_ticked}
 use Rattle.find_form.specs.declared.form.FindForm.{FindForm}
 use Rattle.page_core.specs.Page.{Part}
 use Rattle.page_core.specs.Template.{filled}

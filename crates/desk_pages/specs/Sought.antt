@@ -2,11 +2,11 @@
 use Rattle.std.specs.Prelude.{ℕ, Bool, not, ◌&&◌, ◌||◌, if◌then◌else◌, List, [], ◌∷◌, ◌++◌, codes}
 use Rattle.std.specs.List.{flat_map}
 use Rattle.std.specs.Str.{bytes_eq}
-use Rattle.find_form.specs.Sought.{is_empty, is_me, is_nobody, is_ticked, is_word}
+use Rattle.find_form.specs.SearchFields.{is_empty, is_me, is_nobody, is_ticked, is_word}
 use Rattle.find_form.specs.declared.form.FindForm.{FindForm}
 use Rattle.desk_pages.specs.declared.frame.Place.{Place}
 use Rattle.desk_pages.specs.declared.frame.Place.TheVariants as place
-use Rattle.desk_pages.specs.declared.sought.Sought.{Sought}
+use Rattle.desk_pages.specs.declared.sought.SearchPart.{SearchPart}
 use Rattle.desk_pages.specs.declared.sought.TheConstants.{CLOSED, NOBODYS, OPENED}
 
 -- ---- the parts of a search
@@ -22,7 +22,7 @@ pub record Told : Type 0 where
   pub back : List ℕ
 
 -- the same of texts that are looked at
-abbrev pub plain : Sought → Told
+abbrev pub plain : SearchPart → Told
 plain part =
     record {
       asked = part.asked;

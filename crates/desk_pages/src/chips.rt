@@ -6,7 +6,7 @@ ghost use Rattle.desk_pages.specs.Chips as form;
 ghost use Rattle.desk_pages.specs.Sought.{plain};
 
 use crate::markup::chips::{CHIP, CHIPS_END, CHIPS_TOP};
-use crate::sought::{Sought, is_told, sought_in};
+use crate::sought::{SearchPart, is_told, sought_in};
 use find_form::{FindForm, others_of};
 use page_core::{Value, fill};
 use std::alloc::{AllocError, Global};
@@ -60,7 +60,7 @@ fn put_each(
     alloc: Global,
     out: &mut Vec<u8>,
     query: &str,
-    parts: &[Sought<'_>],
+    parts: &[SearchPart<'_>],
 ) -> Result<(), AllocError>
     ensures { OnOk result (out.new.items ≡ out.old.items
         ++ page_bytes (flat_map (form.chip query.now) (map plain parts.now))) }
@@ -76,7 +76,7 @@ fn put_chip(
     alloc: Global,
     out: &mut Vec<u8>,
     query: &str,
-    part: &Sought<'_>,
+    part: &SearchPart<'_>,
 ) -> Result<(), AllocError>
     ensures { OnOk result (out.new.items
         ≡ out.old.items ++ page_bytes (form.chip query.now (plain part.now))) }
@@ -86,7 +86,7 @@ fn put_chip(
 }
 
 #[tactic(auto, unfolding(crate::specs::Chips::chip_beside))]
-fn put_told<'t>(out: &mut Vec<u8>, others: &'t str, part: Sought<'t>) -> Result<(), AllocError>
+fn put_told<'t>(out: &mut Vec<u8>, others: &'t str, part: SearchPart<'t>) -> Result<(), AllocError>
     ensures { OnOk result (out.new.items ≡ out.old.items
         ++ page_bytes (form.chip_beside others.entry.now (plain part.entry))) }
 {

@@ -1,6 +1,6 @@
 //! The choices that narrow a list.
 ghost use Rattle.std.specs.Prelude.{◌≡◌, ◌++◌, OnOk};
-ghost use Rattle.find_form.specs.Sought.{is_ticked};
+ghost use Rattle.find_form.specs.SearchFields.{is_ticked};
 ghost use Rattle.page_core.specs.Page.{page_bytes};
 ghost use Rattle.desk_pages.specs.Pills as form;
 

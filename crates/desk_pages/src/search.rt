@@ -1,6 +1,6 @@
 //! The form for a search, with what was typed.
 ghost use Rattle.std.specs.Prelude.{◌≡◌, ◌++◌, ◌∷◌, OnOk};
-ghost use Rattle.find_form.specs.Sought.{is_ticked};
+ghost use Rattle.find_form.specs.SearchFields.{is_ticked};
 ghost use Rattle.page_core.specs.Page.{page_bytes};
 ghost use Rattle.desk_pages.specs.Search as form;
 

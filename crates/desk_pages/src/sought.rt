@@ -9,7 +9,7 @@ use text_core::Text;
 
 /// A part of what is sought.
 #[derive(Clone, Copy)]
-pub struct Sought<'f> {
+pub struct SearchPart<'f> {
     /// Whether it is sought.
     pub asked: bool,
     /// The field that says so.
@@ -33,7 +33,7 @@ const CLOSED: &str = "”";
 const NOBODYS: &str = "nobody’s";
 
 /// Each part that a search may have, and whether this one has it.
-pub(crate) fn sought_in(typed: &FindForm) -> [Sought<'_>; 10]
+pub(crate) fn sought_in(typed: &FindForm) -> [SearchPart<'_>; 10]
     ensures { map form.plain result ≡ form.told_in typed.now }
 {
     let owner = typed.owner.as_str();
@@ -67,10 +67,10 @@ pub(crate) fn sought_in(typed: &FindForm) -> [Sought<'_>; 10]
 }
 
 /// Words, and whether they may stand in texts too.
-fn sought_words(words: &str) -> Sought<'_>
+fn sought_words(words: &str) -> SearchPart<'_>
     ensures { form.plain result ≡ form.told_words words.entry.now }
 {
-    Sought {
+    SearchPart {
         asked: !words.is_empty(),
         field: "words",
         beside: "replies",
@@ -81,11 +81,11 @@ fn sought_words(words: &str) -> Sought<'_>
 }
 
 /// What is sought where something was typed for a field.
-fn sought_by<'f>(typed: &'f str, field: &'f str, front: &'f str, value: &'f str) -> Sought<'f>
+fn sought_by<'f>(typed: &'f str, field: &'f str, front: &'f str, value: &'f str) -> SearchPart<'f>
     ensures { form.plain result
         ≡ form.told typed.entry.now field.entry.now front.entry.now value.entry.now }
 {
-    Sought {
+    SearchPart {
         asked: !typed.is_empty(),
         field,
         beside: "",
@@ -209,7 +209,7 @@ pub(crate) fn title_of(alloc: Global, typed: &FindForm) -> Result<Text, AllocErr
     }
 }
 
-fn told_title(alloc: Global, parts: &[Sought<'_>]) -> Result<Text, AllocError>
+fn told_title(alloc: Global, parts: &[SearchPart<'_>]) -> Result<Text, AllocError>
     ensures { IfOk result (λ title. title ≡ form.told_title (map form.plain parts.now)) }
 {
     let mut title = String::new(alloc);
@@ -221,7 +221,7 @@ fn told_title(alloc: Global, parts: &[Sought<'_>]) -> Result<Text, AllocError>
 }
 
 /// Puts the words of a part that is sought, and a comma.
-fn push_told(title: &mut String, part: &Sought<'_>) -> Result<(), AllocError>
+fn push_told(title: &mut String, part: &SearchPart<'_>) -> Result<(), AllocError>
     ensures { OnOk result (string_bytes title.new
         ≡ string_bytes title.old ++ form.words_of (form.plain part.now)) }
 {

@@ -89,7 +89,7 @@ fn answer_command<S: Backend>(
         (tables_of S.Store desk.old) (tables_of S.Store desk.new)) }
     ensures left { LeavesDesk S.Store desk.old desk.new }
 {
-    match desk.told(alloc, at, caller, command) {
+    match desk.execute_as_text(alloc, at, caller, command) {
         Ok(told) => Ok(told.into_text()),
         Err(_) => Err(AllocError),
     }

@@ -240,7 +240,7 @@ fn run_whole<S: Backend, W: Write>(
         × Prints W.contents output.old output.new line }
     ensures honest { WasClean (tables_of S.Store desk.old) (tables_of S.Store desk.new) }
 {
-    match desk.told(alloc, at, caller, command) {
+    match desk.execute_as_text(alloc, at, caller, command) {
         Ok(told) => {
             let status = status_of(&told.outcome);
             let text = told.into_text();

@@ -291,7 +291,7 @@ meter + meter::-moz-meter-bar { background: repeating-linear-gradient(135deg, va
 
 /* Small screens: each row of a list becomes a few lines */
 
-@media (max-width: 52rem) {
+@media (max-width: 56rem) {
   h1 { font-size: 1.1875rem }
   .list thead { position: absolute; width: 1px; height: 1px; overflow: hidden; clip-path: inset(50%) }
   .list { border: 0; background: none }
@@ -333,7 +333,7 @@ meter + meter::-moz-meter-bar { background: repeating-linear-gradient(135deg, va
 
 @media print {
   :root { --page: #fff; --sheet: #fff; --ink: #000; --soft: #333; --line: #999; --link: #000; --fill: #000; --late: #000; --late-wash: #fff; --note: #fff; --note-ink: #000 }
-  nav, header form, .facts form, .skip, .pills, .paging a, .write, .change, .button, details, .queues td:last-child, .queues th:last-child { display: none }
+  nav, form, button, .skip, .pills, .paging a, .write, .change, .button, details, .queues td:last-child, .queues th:last-child { display: none }
   header { border-top: 0 }
   body { font-size: 10pt; display: block }
   main { padding: 0; max-width: none }

@@ -6,7 +6,7 @@ use Rattle.desk_words.specs.Line.{needed}
 use Rattle.desk_words.specs.Words.{between, meant}
 use Rattle.desk_words.specs.declared.fault.WordsFault.TheVariants.{BadQuote, BadWords}
 use Rattle.desk_forms.specs.Words.{Row}
-use Rattle.desk_forms.specs.declared.table.Form.TheVariants as form
+use Rattle.desk_forms.specs.declared.table.CommandForm.TheVariants as form
 
 -- Words.antt: the words of a line, by its characters
 

@@ -12,11 +12,11 @@ use Rattle.find_core.specs.declared.search.Place.{Place}
 use Rattle.find_core.specs.declared.search.StatusAsked.TheVariants.{Any, One, Open, Inactive}
 use Rattle.find_form.specs.Address.{place_in, place_text}
 use Rattle.find_form.specs.Form.{form_in, form_of}
-use Rattle.find_form.specs.Own.{asked_by, owned_by, unowned}
+use Rattle.find_form.specs.HomeSearches.{asked_by, owned_by, unowned}
 use Rattle.find_form.specs.Query.{is_other, others_of}
 use Rattle.find_form.specs.Shown.{found_page, is_back, place_of, shown}
-use Rattle.find_form.specs.Sought.{day_asked, descends, fault_of, first_of_day, order_asked}
-use Rattle.find_form.specs.Sought.{owner_asked, person_asked, search_of, sought, status_asked, words_in}
+use Rattle.find_form.specs.SearchFields.{day_asked, descends, fault_of, first_of_day, order_asked}
+use Rattle.find_form.specs.SearchFields.{owner_asked, person_asked, search_of, sought, status_asked, words_in}
 use Rattle.find_form.specs.declared.fault.FindFault.TheVariants.{Name, Day, Choice, Both}
 use Rattle.find_form.specs.declared.form.FindForm.{FindForm}
 use Rattle.find_form.specs.declared.shown.Start.TheVariants.{First, After, Before}
@@ -93,7 +93,7 @@ field_of_no_search = refl
 field_that_stands_twice : form_in (field (codes "to") [] ∷ field (codes "to") [] ∷ []) ≡ None
 field_that_stands_twice = refl
 
--- Sought.antt: words
+-- SearchFields.antt: words
 
 words_between_spaces : words_in (codes "  paper  jam ") ≡ codes "paper" ∷ codes "jam" ∷ []
 words_between_spaces = refl
@@ -101,7 +101,7 @@ words_between_spaces = refl
 no_words : words_in (codes "  ") ≡ []
 no_words = refl
 
--- Sought.antt: the first fault
+-- SearchFields.antt: the first fault
 
 nothing_typed_has_no_fault : fault_of blank ≡ None
 nothing_typed_has_no_fault = refl
@@ -173,7 +173,7 @@ choice_before_both :
     ≡ Some Choice
 choice_before_both = refl
 
--- Sought.antt: what is sought
+-- SearchFields.antt: what is sought
 
 caller_by_a_word : person_asked (codes "ann") (codes "Me") ≡ Some (codes "ann")
 caller_by_a_word = refl
@@ -312,7 +312,7 @@ fault_in_place_of_a_search :
     search_of (codes "ann") false (record blank { queue = codes "2" }) ≡ Err Name
 fault_in_place_of_a_search = refl
 
--- Own.antt
+-- HomeSearches.antt
 
 mine_are_open_and_mine :
     owned_by (codes "ann")

@@ -1,7 +1,7 @@
 pub mod Address
 pub mod Faults
 pub mod Form
-pub mod Own
+pub mod HomeSearches
 pub mod Query
+pub mod SearchFields
 pub mod Shown
-pub mod Sought

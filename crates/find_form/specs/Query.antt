@@ -3,7 +3,7 @@ use Rattle.std.specs.Prelude.{ℕ, ◌==◌, Bool, false, not, ◌&&◌, List, �
 use Rattle.std.specs.List.{filter, flat_map, list_any, slice_split}
 use Rattle.std.specs.Str.{bytes_eq}
 use Rattle.browser_core.specs.Cuts.{before, rest_after}
-use Rattle.find_form.specs.Sought.{is_word}
+use Rattle.find_form.specs.SearchFields.{is_word}
 
 abbrev pub has_bytes : Option (List ℕ) → Bool
 has_bytes None = false

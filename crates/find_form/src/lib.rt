@@ -12,17 +12,17 @@
 mod address;
 mod fault;
 mod form;
-mod own;
+mod home_searches;
 mod query;
+mod search_fields;
 mod shown;
-mod sought;
 mod words;
 
 pub use address::{place_in, place_text};
 pub use fault::FindFault;
 pub use form::{FindForm, empty_form, form_of};
-pub use own::{asked_by, owned_by, unowned};
+pub use home_searches::{asked_by, owned_by, unowned};
 pub use query::others_of;
+pub use search_fields::search_of;
 pub use shown::{FoundPage, PAGE_ROWS, Start, found_page};
-pub use sought::search_of;
 pub use words::words_in;

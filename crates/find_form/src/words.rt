@@ -1,7 +1,7 @@
 //! The words of a text.
 
 ghost use Rattle.std.specs.Prelude.{◌≡◌, IfOk};
-ghost use Rattle.find_form.specs.Sought as spec;
+ghost use Rattle.find_form.specs.SearchFields as spec;
 
 use std::alloc::{AllocError, Global};
 use text_core::{Text, Texts};

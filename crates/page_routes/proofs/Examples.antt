@@ -4,7 +4,7 @@ use Rattle.std.specs.Prelude.{◌≡◌, refl, ℕ, true, false, List, [], ◌�
 use Rattle.std.specs.Fmt.{digits}
 use Rattle.browser_core.specs.declared.form.Field.{Field}
 use Rattle.desk_forms.specs.declared.paths.Method.TheVariants.{Get}
-use Rattle.desk_forms.specs.declared.table.Form.TheVariants as forms
+use Rattle.desk_forms.specs.declared.table.CommandForm.TheVariants as forms
 use Rattle.desk_model.specs.declared.command.Command.TheVariants as command
 use Rattle.find_core.specs.declared.search.Place as find
 use Rattle.find_form.specs.declared.shown.Start.TheVariants.{First, After, Before}

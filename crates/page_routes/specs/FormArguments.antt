@@ -11,13 +11,13 @@ use Rattle.desk_forms.specs.Keys.{queue_or, request_in}
 use Rattle.desk_forms.specs.Number.{number_of}
 use Rattle.desk_forms.specs.Paths.{PathParameter}
 use Rattle.desk_forms.specs.ArgumentSource.{ArgumentSource}
-use Rattle.desk_forms.specs.declared.table.Form.{Form}
-use Rattle.desk_forms.specs.declared.table.Form.TheVariants as forms
+use Rattle.desk_forms.specs.declared.table.CommandForm.{CommandForm}
+use Rattle.desk_forms.specs.declared.table.CommandForm.TheVariants as forms
 
 -- ---- the fields of each form
 
 -- those that it sends
-abbrev pub needed : Form → List (List ℕ)
+abbrev pub needed : CommandForm → List (List ℕ)
 needed forms.OpenQueue = codes "queue" ∷ codes "lifecycle" ∷ codes "level" ∷ []
 needed forms.Create = codes "subject" ∷ codes "requestors" ∷ []
 needed forms.SetStatus = codes "status" ∷ []
@@ -32,7 +32,7 @@ needed forms.Unlink = codes "kind" ∷ codes "other" ∷ []
 needed _ = []
 
 -- those that it may send: with a new request the first text, and with a reply a status
-abbrev pub others : Form → List (List ℕ)
+abbrev pub others : CommandForm → List (List ℕ)
 others forms.Create = codes "status" ∷ codes "text" ∷ []
 others forms.Reply = codes "status" ∷ []
 others _ = []
@@ -65,6 +65,6 @@ sheet_of b fields = record {
 }
 
 -- the command of a form, where the fields are just its own
-abbrev pub command_in : Form → PathParameter → List Field → Option Command
+abbrev pub command_in : CommandForm → PathParameter → List Field → Option Command
 command_in form b fields =
     if has_fields (needed form) (others form) fields then asked form (sheet_of b fields) else None

@@ -11,8 +11,8 @@ use Rattle.browser_core.specs.Texts.{text_in}
 use Rattle.desk_forms.specs.Number.{number_of}
 use Rattle.desk_forms.specs.declared.paths.Method.{Method}
 use Rattle.desk_forms.specs.declared.paths.Method.TheVariants.{Get, Post}
-use Rattle.desk_forms.specs.declared.table.Form.{Form}
-use Rattle.desk_forms.specs.declared.table.Form.TheVariants as forms
+use Rattle.desk_forms.specs.declared.table.CommandForm.{CommandForm}
+use Rattle.desk_forms.specs.declared.table.CommandForm.TheVariants as forms
 use Rattle.find_core.specs.declared.search.Place as find
 use Rattle.find_form.specs.Address as address
 use Rattle.find_form.specs.declared.shown.Start.{Start}
@@ -53,7 +53,7 @@ fixed path =
     else None
 
 -- an act on a request
-abbrev pub act_named : List ℕ → Option Form
+abbrev pub act_named : List ℕ → Option CommandForm
 act_named word =
     if bytes_eq word (codes "status") then Some forms.SetStatus
     else if bytes_eq word (codes "take") then Some forms.Take

@@ -19,8 +19,8 @@ use Rattle.desk_forms.specs.Number.{number_of}
 use Rattle.desk_forms.specs.Paths.{InQueue, Nothing, OnRequest}
 use Rattle.desk_forms.specs.declared.paths.Method.{Method}
 use Rattle.desk_forms.specs.declared.paths.Method.TheVariants.{Get, Post}
-use Rattle.desk_forms.specs.declared.table.Form.{Form}
-use Rattle.desk_forms.specs.declared.table.Form.TheVariants as forms
+use Rattle.desk_forms.specs.declared.table.CommandForm.{CommandForm}
+use Rattle.desk_forms.specs.declared.table.CommandForm.TheVariants as forms
 use Rattle.page_routes.specs.FormArguments.{command_in, filled}
 use Rattle.page_routes.specs.Places.{method_named, place_at, takes_post}
 use Rattle.page_routes.specs.declared.fault.PageFault.{PageFault}
@@ -139,7 +139,7 @@ going fields =
 abbrev pub typed : List ℕ → List Field → List ℕ
 typed name fields = unwrap_or (value_of name fields) []
 
-abbrev pub sent_on : Form → ℕ → List Field → SubmittedForm
+abbrev pub sent_on : CommandForm → ℕ → List Field → SubmittedForm
 sent_on forms.Reply id fields =
     sends.Reply id (typed (codes "text") fields) (filled (value_of (codes "status") fields))
 sent_on forms.Comment id fields = sends.Comment id (typed (codes "text") fields)

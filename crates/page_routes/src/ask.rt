@@ -12,7 +12,7 @@ use crate::place::Place;
 use crate::visit::{PageRequest, SubmittedForm};
 use browser_core::{Field, fields_of, has_fields};
 use desk_forms::paths::PathParameter;
-use desk_forms::table::Form;
+use desk_forms::table::CommandForm;
 use desk_model::Command;
 use std::alloc::{AllocError, Global};
 use text_core::Text;
@@ -65,7 +65,12 @@ fn asked_at(
     match place {
         Place::Go => going(fields),
         Place::Queues => {
-            let command = command_in(alloc, Form::OpenQueue, PathParameter::Nothing, fields)?;
+            let command = command_in(
+                alloc,
+                CommandForm::OpenQueue,
+                PathParameter::Nothing,
+                fields,
+            )?;
             acted(caller, SubmittedForm::Queue, command)
         }
         Place::Act(act, id) => {
@@ -75,7 +80,7 @@ fn asked_at(
         Place::Page(Page::New(queue)) => {
             let command = command_in(
                 alloc,
-                Form::Create,
+                CommandForm::Create,
                 PathParameter::Queue(queue.as_str()),
                 fields,
             )?;
@@ -116,12 +121,17 @@ fn acted(
 }
 
 /// What was sent with a form on a request.
-fn sent_on(alloc: Global, act: Form, id: u32, fields: &[Field]) -> Result<SubmittedForm, AllocError>
+fn sent_on(
+    alloc: Global,
+    act: CommandForm,
+    id: u32,
+    fields: &[Field],
+) -> Result<SubmittedForm, AllocError>
     ensures { IfOk result (λ sent. sent ≡ visits.sent_on act id fields.now) }
 {
     match act {
-        Form::Reply => replied(alloc, id, fields),
-        Form::Comment => Ok(SubmittedForm::Comment {
+        CommandForm::Reply => replied(alloc, id, fields),
+        CommandForm::Comment => Ok(SubmittedForm::Comment {
             id,
             text: Text::new(alloc, typed(fields, "text"))?,
         }),
@@ -131,7 +141,7 @@ fn sent_on(alloc: Global, act: Form, id: u32, fields: &[Field]) -> Result<Submit
 
 /// What was sent with the form for a reply.
 fn replied(alloc: Global, id: u32, fields: &[Field]) -> Result<SubmittedForm, AllocError>
-    ensures { IfOk result (λ sent. sent ≡ visits.sent_on Form.Reply id fields.now) }
+    ensures { IfOk result (λ sent. sent ≡ visits.sent_on CommandForm.Reply id fields.now) }
 {
     let text = Text::new(alloc, typed(fields, "text"))?;
     let status = chosen_status(alloc, fields)?;

@@ -11,38 +11,38 @@ use browser_core::{Field, has_fields, value_of};
 use desk_forms::asked::{ArgumentSource, asked};
 use desk_forms::number_of_word;
 use desk_forms::paths::PathParameter;
-use desk_forms::table::Form;
+use desk_forms::table::CommandForm;
 use desk_model::Command;
 use std::alloc::{AllocError, Global};
 use text_core::{Text, Texts};
 
 /// The names of the fields that a form sends.
-fn needed(of: Form) -> &'static [&'static str]
+fn needed(of: CommandForm) -> &'static [&'static str]
     ensures { map (λ n. n.now) result.now ≡ filled.needed of }
 {
     match of {
-        Form::OpenQueue => &["queue", "lifecycle", "level"],
-        Form::Create => &["subject", "requestors"],
-        Form::SetStatus => &["status"],
-        Form::SetLevel => &["level"],
-        Form::Give => &["person"],
-        Form::Reply => &["text"],
-        Form::Comment => &["text"],
-        Form::Watch => &["role", "person"],
-        Form::Unwatch => &["role", "person"],
-        Form::Link => &["kind", "other"],
-        Form::Unlink => &["kind", "other"],
+        CommandForm::OpenQueue => &["queue", "lifecycle", "level"],
+        CommandForm::Create => &["subject", "requestors"],
+        CommandForm::SetStatus => &["status"],
+        CommandForm::SetLevel => &["level"],
+        CommandForm::Give => &["person"],
+        CommandForm::Reply => &["text"],
+        CommandForm::Comment => &["text"],
+        CommandForm::Watch => &["role", "person"],
+        CommandForm::Unwatch => &["role", "person"],
+        CommandForm::Link => &["kind", "other"],
+        CommandForm::Unlink => &["kind", "other"],
         _ => &[],
     }
 }
 
 /// The names of those that it may send.
-fn others(of: Form) -> &'static [&'static str]
+fn others(of: CommandForm) -> &'static [&'static str]
     ensures { map (λ n. n.now) result.now ≡ filled.others of }
 {
     match of {
-        Form::Create => &["status", "text"],
-        Form::Reply => &["status"],
+        CommandForm::Create => &["status", "text"],
+        CommandForm::Reply => &["status"],
         _ => &[],
     }
 }
@@ -141,7 +141,7 @@ impl ArgumentSource for FormArguments<'_> {
 /// The command of a form at a path that names this, where the fields are just its own.
 pub(crate) fn command_in(
     alloc: Global,
-    of: Form,
+    of: CommandForm,
     bound: PathParameter<'_>,
     fields: &[Field],
 ) -> Result<Option<Command>, AllocError>

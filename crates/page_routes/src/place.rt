@@ -11,7 +11,7 @@ use crate::page::Page;
 use browser_core::{cut, text_in};
 use desk_forms::number_of_word;
 use desk_forms::paths::Method;
-use desk_forms::table::Form;
+use desk_forms::table::CommandForm;
 use find_form::{Start, place_in};
 use std::alloc::{AllocError, Global};
 use text_core::{Text, is_name};
@@ -29,7 +29,7 @@ pub(crate) enum Place {
     /// A page that GET shows.
     Page(Page),
     /// An act on a request.
-    Act(Form, u32),
+    Act(CommandForm, u32),
 }
 
 /// What paths of queues begin with.
@@ -107,27 +107,27 @@ fn fixed(path: &[u8]) -> Option<Place>
 }
 
 /// An act on a request.
-fn act_named(word: &str) -> Option<Form>
+fn act_named(word: &str) -> Option<CommandForm>
     ensures { result ≡ places.act_named word.now }
 {
     match word {
-        "status" => Some(Form::SetStatus),
-        "take" => Some(Form::Take),
-        "steal" => Some(Form::Steal),
-        "untake" => Some(Form::Untake),
-        "give" => Some(Form::Give),
-        "reply" => Some(Form::Reply),
-        "comment" => Some(Form::Comment),
-        "watch" => Some(Form::Watch),
-        "unwatch" => Some(Form::Unwatch),
-        "link" => Some(Form::Link),
-        "unlink" => Some(Form::Unlink),
-        "level" => Some(Form::SetLevel),
+        "status" => Some(CommandForm::SetStatus),
+        "take" => Some(CommandForm::Take),
+        "steal" => Some(CommandForm::Steal),
+        "untake" => Some(CommandForm::Untake),
+        "give" => Some(CommandForm::Give),
+        "reply" => Some(CommandForm::Reply),
+        "comment" => Some(CommandForm::Comment),
+        "watch" => Some(CommandForm::Watch),
+        "unwatch" => Some(CommandForm::Unwatch),
+        "link" => Some(CommandForm::Link),
+        "unlink" => Some(CommandForm::Unlink),
+        "level" => Some(CommandForm::SetLevel),
         _ => None,
     }
 }
 
-fn act_in(word: &[u8]) -> Option<Form>
+fn act_in(word: &[u8]) -> Option<CommandForm>
     ensures { result ≡ option_and_then places.act_named (texts.text_in word.now) }
 {
     match text_in(word) {

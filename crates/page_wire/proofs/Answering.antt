@@ -34,12 +34,12 @@ use Rattle.wire_core.specs.Runs.{Sent as Message}
 use Rattle.wire_core.specs.Steps.{ReadStepsOn, StaysOn}
 use Rattle.wire_core.proofs.Stepping.{leads_nowhere, leads_same, leads_wider, read_leads}
 use Rattle.page_wire.specs.Faults.{fault_reply}
-use Rattle.page_wire.specs.Steps.{AskedStepsOn, AsksAt, By, IsAnsweredOn, IsAnswerTo, IsReadOf}
+use Rattle.page_wire.specs.Steps.{RequestPageStepsOn, PageRequestSteps, IfElse, IsAnsweredOn, IsAnswerTo, IsReadOf}
 use Rattle.page_wire.specs.HeadOnly.{told_of}
 use Rattle.page_wire.specs.Health.{TellsHealth, asks_health}
-use Rattle.page_wire.specs.Steps.{PageSteps, SentSteps}
+use Rattle.page_wire.specs.Steps.{PageSteps, MessageReadSteps}
 use Rattle.page_wire.specs.Forms.{FormStepsOn}
-use Rattle.page_wire.specs.Steps.{LookStepsOn, RequestStepsOn, SentStepsOn, ToldStepsOn, VisitStepsOn}
+use Rattle.page_wire.specs.Steps.{LookStepsOn, RequestStepsOn, MessageReadStepsOn, ToldStepsOn, TimedPageStepsOn}
 
 -- ---- what was read
 
@@ -51,21 +51,21 @@ abbrev Reads : List ℕ → Result Request WireFault → Type 0
 Reads bytes read = read ≢ Err NoMemory → IsReadOf bytes read
 
 answered_so : (s : Settings) (sent : Message) (read : Result Request WireFault) (bytes : List ℕ)
-    (old new : State) → IsReadOf sent.1 read → SentStepsOn s sent.0 read bytes old new
+    (old new : State) → IsReadOf sent.1 read → MessageReadStepsOn s sent.0 read bytes old new
     → IsAnsweredOn s sent bytes old new
 unfolding IsAnswerTo
 answered_so s sent read bytes old new reads steps =
     leads_wider s _ _ old new (λ desk after step. inr (read, reads, step)) steps
 
 left_so : (s : Settings) (sent : Message) (bytes : List ℕ) (old new : State)
-    → SentStepsOn s sent.0 (Err NoMemory) bytes old new → IsAnsweredOn s sent bytes old new
+    → MessageReadStepsOn s sent.0 (Err NoMemory) bytes old new → IsAnsweredOn s sent bytes old new
 unfolding IsAnswerTo
 left_so s sent bytes old new steps =
     leads_wider s _ _ old new (λ desk after step. inl (no_memory bytes step.0, step.1)) steps
 
 -- what was read and answered is the answer to the bytes
 pub answered : (s : Settings) (sent : Message) (read : Result Request WireFault) (bytes : List ℕ)
-    (old new : State) → Reads sent.1 read → SentStepsOn s sent.0 read bytes old new
+    (old new : State) → Reads sent.1 read → MessageReadStepsOn s sent.0 read bytes old new
     → IsAnsweredOn s sent bytes old new
 answered s sent (Ok request) bytes old new reads steps =
     answered_so s sent (Ok request) bytes old new (reads (λ e. cc)) steps
@@ -108,24 +108,24 @@ told_read bytes fault told reads is other =
 -- no message: it is told why
 pub fault_told : {A E : Type 0} (s : Settings) (at : ℕ) (fault : WireFault) (r : Result (Vec ℕ A) E)
     (tables : State) → IfOk r (λ out. TellsFault fault out.items)
-    → IfOk r (λ out. SentStepsOn s at (Err fault) out.items tables tables)
+    → IfOk r (λ out. MessageReadStepsOn s at (Err fault) out.items tables tables)
 fault_told s at fault (Ok out) tables told = leads_nowhere s _ tables (λ desk. (told, refl))
 fault_told s at fault (Err e) tables told = tt
 
-by_no : (b : Bool) (Yes No : Type 0) → b ≡ false → No → By b Yes No
+by_no : (b : Bool) (Yes No : Type 0) → b ≡ false → No → IfElse b Yes No
 by_no b Yes No is holds = subst (λ (c : Bool). By c Yes No) (sym is) holds
 
-by_yes : (b : Bool) (Yes No : Type 0) → b ≡ true → Yes → By b Yes No
+by_yes : (b : Bool) (Yes No : Type 0) → b ≡ true → Yes → IfElse b Yes No
 by_yes b Yes No is holds = subst (λ (c : Bool). By c Yes No) (sym is) holds
 
 -- whoever asks whether the desk is there is told
 pub health_told : {A E : Type 0} (s : Settings) (at : ℕ) (request : Request) (h : Bool)
     (r : Result (Vec ℕ A) E) (old new : State) → asks_health request.message ≡ true
     → h ≡ is_head request.message → LeavesTables old new → IfOk r (λ out. TellsHealth h out.items)
-    → IfOk r (λ out. SentStepsOn s at (Ok request) out.items old new)
+    → IfOk r (λ out. MessageReadStepsOn s at (Ok request) out.items old new)
 health_told s at request h (Ok out) old new is head kept told =
     let so = subst (λ (b : Bool). TellsHealth b out.items) head told in
-    leads_same s (λ desk after. SentSteps s at (Ok request) desk out.items after) old new kept
+    leads_same s (λ desk after. MessageReadSteps s at (Ok request) desk out.items after) old new kept
     (λ desk. by_yes (asks_health request.message) _ _ is (so, refl))
 health_told s at request h (Err e) old new is head kept told = tt
 
@@ -134,7 +134,7 @@ pub elsewhere : {A E : Type 0} (s : Settings) (at : ℕ) (request : Request)
     (r : Result (Vec ℕ A) E) (old new : State) → asks_health request.message ≡ false
     → is_page_path (path_in request.message.target) ≡ false
     → IfOk r (λ out. ReadStepsOn s at (Ok request.message) out.items old new)
-    → IfOk r (λ out. SentStepsOn s at (Ok request) out.items old new)
+    → IfOk r (λ out. MessageReadStepsOn s at (Ok request) out.items old new)
 elsewhere s at request (Ok out) old new health other steps =
     leads_wider s _ _ old new
     (λ desk after step. by_no (asks_health request.message) _ _ health
@@ -147,7 +147,7 @@ pub on_pages : {A E : Type 0} (s : Settings) (at : ℕ) (request : Request)
     (r : Result (Vec ℕ A) E) (old new : State) → asks_health request.message ≡ false
     → is_page_path (path_in request.message.target) ≡ true
     → IfOk r (λ out. RequestStepsOn s at request out.items old new)
-    → IfOk r (λ out. SentStepsOn s at (Ok request) out.items old new)
+    → IfOk r (λ out. MessageReadStepsOn s at (Ok request) out.items old new)
 on_pages s at request (Ok out) old new health is steps =
     leads_wider s _ _ old new
     (λ desk after step. by_no (asks_health request.message) _ _ health
@@ -172,7 +172,7 @@ left_spared g old new same kept =
 -- ---- what a request asks for
 
 pub asked : (s : Settings) (at : ℕ) (request : Request) (bytes : List ℕ) (old new : State)
-    → AskedStepsOn s at request bytes old new → RequestStepsOn s at request bytes old new
+    → RequestPageStepsOn s at request bytes old new → RequestStepsOn s at request bytes old new
 asked s at request bytes old new steps =
     leads_wider s _ _ old new (λ desk after step. inr step) steps
 
@@ -188,7 +188,7 @@ pub visited : {X E : Type 0} (s : Settings) (at : ℕ) (request : Request) (visi
     → ((h : RequestHead) → StartsWith request.head h []
     → visit_of s at request.message (values_in h) ≡ Ok visit)
     → OnOk r (ToldStepsOn s at (is_head request.message) visit bytes old new)
-    → OnOk r (AskedStepsOn s at request bytes old new)
+    → OnOk r (RequestPageStepsOn s at request bytes old new)
 visited s at request visit (Ok x) bytes old new is steps =
     leads_wider s _ _ old new
     (λ desk after step head starts.
@@ -198,7 +198,7 @@ visited s at request visit (Err e) bytes old new is steps = tt
 
 -- its reply is told, or the head of it
 pub told_so : (s : Settings) (at : ℕ) (head_only : Bool) (visit : PageRequest) (whole bytes : List ℕ)
-    (old new : State) → VisitStepsOn s at visit whole old new → bytes ≡ told_of head_only whole
+    (old new : State) → TimedPageStepsOn s at visit whole old new → bytes ≡ told_of head_only whole
     → ToldStepsOn s at head_only visit bytes old new
 told_so s at head_only visit whole bytes old new steps told =
     leads_wider s _ _ old new (λ desk after step. (whole, step, told)) steps
@@ -209,7 +209,7 @@ pub faulted : {X E : Type 0} (s : Settings) (at : ℕ) (request : Request) (faul
     → ((h : RequestHead) → StartsWith request.head h []
     → visit_of s at request.message (values_in h) ≡ Err fault)
     → OnOk r (bytes ≡ fault_reply (is_head request.message) fault)
-    → OnOk r (AskedStepsOn s at request bytes tables tables)
+    → OnOk r (RequestPageStepsOn s at request bytes tables tables)
 faulted s at request fault (Ok x) bytes tables is told =
     leads_nowhere s _ tables
     (λ desk head starts. subst (λ (asked : Result PageRequest PageFault). PageSteps s at
@@ -220,8 +220,8 @@ faulted s at request fault (Err e) bytes tables is told = tt
 
 at_its_moment : (s : Settings) (at : ℕ) (visit : PageRequest) (bytes : List ℕ) (old new : State)
     → is_due_moment at ≡ true
-    → OverTables s (λ desk after. AsksAt s at visit desk bytes after) old new
-    → VisitStepsOn s at visit bytes old new
+    → OverTables s (λ desk after. PageRequestSteps s at visit desk bytes after) old new
+    → TimedPageStepsOn s at visit bytes old new
 at_its_moment s at visit bytes old new is steps =
     leads_wider s _ _ old new (λ desk after step. by_yes (is_due_moment at) _ _ is step) steps
 
@@ -235,12 +235,12 @@ pub look_visit : {A X E F : Type 0} (s : Settings) (at : ℕ) (visit : PageReque
     (old new : State) → visit ≡ Look caller page
     → Some moment ≡ (if is_due_moment at then Some at else None)
     → IfOk made (λ out. LookStepsOn s moment caller page out.items old new)
-    → OnOk r (made ≡ Ok room) → OnOk r (VisitStepsOn s at visit room.items old new)
+    → OnOk r (made ≡ Ok room) → OnOk r (TimedPageStepsOn s at visit room.items old new)
 look_visit s at visit caller page moment made (Ok x) room old new asked is steps same =
     let when = is_moment (is_due_moment at) at moment is in
     let looked = subst (λ m. IfOk m (λ out. LookStepsOn s moment caller page out.items old new)) same steps in
     let now = subst (λ n. LookStepsOn s n caller page room.items old new) when.1 looked in
-    subst (λ (v : PageRequest). VisitStepsOn s at v room.items old new) (sym asked)
+    subst (λ (v : PageRequest). TimedPageStepsOn s at v room.items old new) (sym asked)
     (at_its_moment s at (Look caller page) room.items old new when.0 now)
 look_visit s at visit caller page moment made (Err e) room old new asked is steps same = tt
 
@@ -249,11 +249,11 @@ pub act_visit : {X F : Type 0} (s : Settings) (at : ℕ) (visit : PageRequest) (
     (old new : State) → visit ≡ Act caller command sent
     → Some moment ≡ (if is_due_moment at then Some at else None)
     → OnOk r (FormStepsOn s moment caller command sent bytes old new)
-    → OnOk r (VisitStepsOn s at visit bytes old new)
+    → OnOk r (TimedPageStepsOn s at visit bytes old new)
 act_visit s at visit caller command sent moment (Ok x) bytes old new asked is steps =
     let when = is_moment (is_due_moment at) at moment is in
     let now =
     subst (λ n. FormStepsOn s n caller command sent bytes old new) when.1 steps in
-    subst (λ (v : PageRequest). VisitStepsOn s at v bytes old new) (sym asked)
+    subst (λ (v : PageRequest). TimedPageStepsOn s at v bytes old new) (sym asked)
     (at_its_moment s at (Act caller command sent) bytes old new when.0 now)
 act_visit s at visit caller command sent moment (Err e) bytes old new asked is steps = tt

@@ -16,7 +16,7 @@ use Rattle.desk_model.specs.declared.refusal.Refusal.{Refusal}
 use Rattle.find_core.specs.declared.loads.QueueLoad.{QueueLoad}
 use Rattle.find_core.specs.declared.search.Findings.{Findings}
 use Rattle.find_core.specs.declared.search.Search.{Search}
-use Rattle.find_form.specs.Own.{asked_by, owned_by, unowned}
+use Rattle.find_form.specs.HomeSearches.{asked_by, owned_by, unowned}
 use Rattle.find_form.specs.Shown.{place_of}
 use Rattle.find_form.specs.declared.shown.Start.{Start}
 use Rattle.service_core.specs.Dossiers.{DossierOn}

@@ -21,9 +21,9 @@ use Rattle.find_core.specs.declared.search.Findings.{Findings}
 use Rattle.find_core.specs.declared.search.Place.{Place}
 use Rattle.find_core.specs.declared.search.Search.{Search}
 use Rattle.find_form.specs.Form.{filled, form_of}
-use Rattle.find_form.specs.Own.{asked_by, owned_by, unowned}
+use Rattle.find_form.specs.HomeSearches.{asked_by, owned_by, unowned}
 use Rattle.find_form.specs.Shown.{is_back, place_of}
-use Rattle.find_form.specs.Sought.{search_of}
+use Rattle.find_form.specs.SearchFields.{search_of}
 use Rattle.find_form.specs.declared.fault.FindFault.{FindFault}
 use Rattle.find_form.specs.declared.fault.FindFault.TheVariants.{Fields}
 use Rattle.find_form.specs.declared.form.FindForm.{FindForm}
@@ -62,9 +62,9 @@ use Rattle.page_wire.specs.Visits.{IsFixed}
 abbrev pub Tells : List ℕ → Desk → List ℕ → Desk → Type 0
 Tells reply old bytes new = (bytes ≡ reply) × (new ≡ old)
 
-abbrev pub By : Bool → Type 0 → Type 0 → Type 0
-By true Yes No = Yes
-By false Yes No = No
+abbrev pub IfElse : Bool → Type 0 → Type 0 → Type 0
+IfElse true Yes No = Yes
+IfElse false Yes No = No
 
 -- ---- commands
 
@@ -119,17 +119,17 @@ SearchSteps settings at caller query start form (Ok search) =
 SearchSteps settings at caller query start form (Err fault) =
     Tells (replies.find_fault_reply caller at fault form)
 
-abbrev pub TypedSteps : Settings → ℕ → List ℕ → List ℕ → Start → Option FindForm
+abbrev pub SearchFormSteps : Settings → ℕ → List ℕ → List ℕ → Start → Option FindForm
     → Desk → List ℕ → Desk → Type 0
-TypedSteps settings at caller query start (Some form) =
+SearchFormSteps settings at caller query start (Some form) =
     SearchSteps settings at caller query start form (search_of caller (is_back start) form)
-TypedSteps settings at caller query start None =
+SearchFormSteps settings at caller query start None =
     Tells (replies.find_fault_reply caller at Fields (filled []))
 
 -- what these fields of an address ask
 abbrev pub FindSteps : Settings → ℕ → List ℕ → List ℕ → Start → Desk → List ℕ → Desk → Type 0
 FindSteps settings at caller query start =
-    TypedSteps settings at caller query start (form_of query)
+    SearchFormSteps settings at caller query start (form_of query)
 
 -- what a page asks, and its reply
 abbrev pub LookSteps : Settings → ℕ → List ℕ → routes.Page → Desk → List ℕ → Desk → Type 0
@@ -152,20 +152,20 @@ abbrev pub Stays : PageRequest → Desk → List ℕ → Desk → Type 0
 Stays visit old bytes new = IsFixed visit bytes × (new ≡ old)
 
 -- what a visit asks of the desk
-abbrev pub AsksAt : Settings → ℕ → PageRequest → Desk → List ℕ → Desk → Type 0
-AsksAt settings at (visit.Look caller page) = LookSteps settings at caller page
-AsksAt settings at (visit.Act caller command sent) = FormSteps settings at caller command sent
-AsksAt settings at other = Stays other
+abbrev pub PageRequestSteps : Settings → ℕ → PageRequest → Desk → List ℕ → Desk → Type 0
+PageRequestSteps settings at (visit.Look caller page) = LookSteps settings at caller page
+PageRequestSteps settings at (visit.Act caller command sent) = FormSteps settings at caller command sent
+PageRequestSteps settings at other = Stays other
 
 -- a moment that no clock of the desk can show has no page, and the desk is asked for nothing
-abbrev pub VisitSteps : Settings → ℕ → PageRequest → Desk → List ℕ → Desk → Type 0
-VisitSteps settings at visit old bytes new =
-    By (is_due_moment at) (AsksAt settings at visit old bytes new) (Stays visit old bytes new)
+abbrev pub TimedPageSteps : Settings → ℕ → PageRequest → Desk → List ℕ → Desk → Type 0
+TimedPageSteps settings at visit old bytes new =
+    IfElse (is_due_moment at) (PageRequestSteps settings at visit old bytes new) (Stays visit old bytes new)
 
 -- its reply is told, or its head alone
 abbrev pub ToldSteps : Settings → ℕ → Bool → PageRequest → Desk → List ℕ → Desk → Type 0
 ToldSteps settings at head_only visit old bytes new =
-    (whole : List ℕ) × VisitSteps settings at visit old whole new × (bytes ≡ told_of head_only whole)
+    (whole : List ℕ) × TimedPageSteps settings at visit old whole new × (bytes ≡ told_of head_only whole)
 
 -- a message at a place of the pages: its visit, or its first fault
 abbrev pub PageSteps : Settings → ℕ → Bool → Result PageRequest PageFault → Desk → List ℕ → Desk → Type 0
@@ -173,8 +173,8 @@ PageSteps settings at head_only (Ok visit) = ToldSteps settings at head_only vis
 PageSteps settings at head_only (Err fault) = Tells (fault_reply head_only fault)
 
 -- what a message with this head asks of the pages is done
-abbrev pub AskedSteps : Settings → ℕ → Request → Desk → List ℕ → Desk → Type 0
-AskedSteps settings at request old bytes new =
+abbrev pub RequestPageSteps : Settings → ℕ → Request → Desk → List ℕ → Desk → Type 0
+RequestPageSteps settings at request old bytes new =
     (head : RequestHead) → StartsWith request.head head []
     → PageSteps settings at (is_head request.message)
     (visit_of settings at request.message (values_in head)) old bytes new
@@ -183,15 +183,15 @@ AskedSteps settings at request old bytes new =
 abbrev pub RequestSteps : Settings → ℕ → Request → Desk → List ℕ → Desk → Type 0
 RequestSteps settings at request old bytes new =
     LeavesOut (is_head request.message) old bytes new
-    ⊎ AskedSteps settings at request old bytes new
+    ⊎ RequestPageSteps settings at request old bytes new
 
 -- The step of what was read: a fault is told; whoever asks whether the desk is there is told; and else
 -- a message is answered at a place of the pages by its visit, and by the interface at any other.
-abbrev pub SentSteps : Settings → ℕ → Result Request WireFault → Desk → List ℕ → Desk → Type 0
-SentSteps settings at (Err fault) old bytes new = TellsFault fault bytes × (new ≡ old)
-SentSteps settings at (Ok request) old bytes new =
-    By (asks_health request.message) (TellsHealth (is_head request.message) bytes × (new ≡ old))
-    (By (is_page_path (path_in request.message.target)) (RequestSteps settings at request old bytes new)
+abbrev pub MessageReadSteps : Settings → ℕ → Result Request WireFault → Desk → List ℕ → Desk → Type 0
+MessageReadSteps settings at (Err fault) old bytes new = TellsFault fault bytes × (new ≡ old)
+MessageReadSteps settings at (Ok request) old bytes new =
+    IfElse (asks_health request.message) (TellsHealth (is_head request.message) bytes × (new ≡ old))
+    (IfElse (is_page_path (path_in request.message.target)) (RequestSteps settings at request old bytes new)
     (MessageSteps settings at request.message old bytes new))
 
 -- it is read so of these bytes, with a body as long as its place takes
@@ -203,7 +203,7 @@ unfoldable pub IsAnswerTo : Settings → Sent → Desk → List ℕ → Desk →
 IsAnswerTo settings sent old bytes new =
     LeavesOut false old bytes new
     ⊎ ((read : Result Request WireFault) × IsReadOf sent.1 read
-    × SentSteps settings sent.0 read old bytes new)
+    × MessageReadSteps settings sent.0 read old bytes new)
 
 -- ---- over tables
 
@@ -230,7 +230,7 @@ Looked g old new at caller page result =
     LookedBy g old new (LookSteps (settings_of g old) at caller page) result
 
 -- how a search for a page ends, and the tables stay
-pub record Sought {S : Type 0} (g : Ghosts S) (old new : service.Desk S g) (at : ℕ)
+pub record SearchRead {S : Type 0} (g : Ghosts S) (old new : service.Desk S g) (at : ℕ)
     (caller : List ℕ) (search : Search) (limit : ℕ) (after : Option Place)
     (result : Result Findings Refusal) : Type 0 where
   pub found : FindsOn (settings_of g old) at caller search limit after result (tables_of g old)
@@ -238,25 +238,25 @@ pub record Sought {S : Type 0} (g : Ghosts S) (old new : service.Desk S g) (at :
   pub kept : LeavesTables (tables_of g old) (tables_of g new)
   pub same : settings_of g new ≡ settings_of g old
 
-abbrev pub AskedStepsOn : Settings → ℕ → Request → List ℕ → State → State → Type 0
-AskedStepsOn settings at request bytes =
-    OverTables settings (λ desk after. AskedSteps settings at request desk bytes after)
+abbrev pub RequestPageStepsOn : Settings → ℕ → Request → List ℕ → State → State → Type 0
+RequestPageStepsOn settings at request bytes =
+    OverTables settings (λ desk after. RequestPageSteps settings at request desk bytes after)
 
 abbrev pub RequestStepsOn : Settings → ℕ → Request → List ℕ → State → State → Type 0
 RequestStepsOn settings at request bytes =
     OverTables settings (λ desk after. RequestSteps settings at request desk bytes after)
 
-abbrev pub VisitStepsOn : Settings → ℕ → PageRequest → List ℕ → State → State → Type 0
-VisitStepsOn settings at visit bytes =
-    OverTables settings (λ desk after. VisitSteps settings at visit desk bytes after)
+abbrev pub TimedPageStepsOn : Settings → ℕ → PageRequest → List ℕ → State → State → Type 0
+TimedPageStepsOn settings at visit bytes =
+    OverTables settings (λ desk after. TimedPageSteps settings at visit desk bytes after)
 
 abbrev pub ToldStepsOn : Settings → ℕ → Bool → PageRequest → List ℕ → State → State → Type 0
 ToldStepsOn settings at head_only visit bytes =
     OverTables settings (λ desk after. ToldSteps settings at head_only visit desk bytes after)
 
-abbrev pub SentStepsOn : Settings → ℕ → Result Request WireFault → List ℕ → State → State → Type 0
-SentStepsOn settings at read bytes =
-    OverTables settings (λ desk after. SentSteps settings at read desk bytes after)
+abbrev pub MessageReadStepsOn : Settings → ℕ → Result Request WireFault → List ℕ → State → State → Type 0
+MessageReadStepsOn settings at read bytes =
+    OverTables settings (λ desk after. MessageReadSteps settings at read desk bytes after)
 
 abbrev pub IsAnsweredOn : Settings → Sent → List ℕ → State → State → Type 0
 IsAnsweredOn settings sent bytes =

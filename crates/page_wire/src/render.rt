@@ -3,7 +3,7 @@ ghost use Rattle.std.specs.Prelude.{◌≡◌, [], None, IfOk};
 ghost use Rattle.service_core.specs.Seen.{settings_of};
 ghost use Rattle.find_form.specs.Form.{filled};
 ghost use Rattle.find_form.specs.Shown.{is_back};
-ghost use Rattle.find_form.specs.Sought.{search_of};
+ghost use Rattle.find_form.specs.SearchFields.{search_of};
 ghost use Rattle.page_wire.specs.Replies.{find_fault_reply, find_reply, is_no_memory, queue_query};
 ghost use Rattle.page_wire.specs.Steps.{
   Finds,
@@ -11,8 +11,8 @@ ghost use Rattle.page_wire.specs.Steps.{
   Looked,
   LookedBy,
   SearchSteps,
-  Sought,
-  TypedSteps,
+  SearchRead,
+  SearchFormSteps,
 };
 
 use crate::pages::{
@@ -85,7 +85,7 @@ fn first_of<S: Backend>(
     desk: &mut Desk<S>,
 ) -> Result<Findings, Refusal>
     ensures { (sought : Search) → IfOk search (λ made. made ≡ sought)
-        → Sought S.Store desk.old desk.new moment caller.now sought 20 None result }
+        → SearchRead S.Store desk.old desk.new moment caller.now sought 20 None result }
 {
     match search {
         Ok(search) => {
@@ -152,7 +152,7 @@ fn typed<S: Backend>(
     moment: Minute,
     desk: &mut Desk<S>,
 ) -> Result<Vec<u8>, AllocError>
-    ensures { LookedBy S.Store desk.old desk.new (TypedSteps (settings_of S.Store desk.old) moment
+    ensures { LookedBy S.Store desk.old desk.new (SearchFormSteps (settings_of S.Store desk.old) moment
         caller.now query.now start form) result }
 {
     match form {

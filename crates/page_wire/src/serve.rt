@@ -6,7 +6,7 @@ ghost use Rattle.service_core.specs.Leaves.{LeavesDesk};
 ghost use Rattle.service_core.specs.Seen.{settings_of, tables_of};
 ghost use Rattle.store_tables.specs.Calls.{LeavesTables};
 ghost use Rattle.page_wire.specs.Faults as form;
-ghost use Rattle.page_wire.specs.Steps.{AskedStepsOn, IsReadOf, RequestStepsOn, SentStepsOn, ToldStepsOn};
+ghost use Rattle.page_wire.specs.Steps.{RequestPageStepsOn, IsReadOf, RequestStepsOn, MessageReadStepsOn, ToldStepsOn};
 ghost use Rattle.wire_core.specs.Steps.{StaysOn};
 
 use crate::faults::fault_reply;
@@ -69,7 +69,7 @@ pub fn answer_sent<S: Backend>(
     moment: u32,
     desk: &mut Desk<S>,
 ) -> Result<Vec<u8>, AllocError>
-    ensures reply { IfOk result (λ out. SentStepsOn (settings_of S.Store desk.old) moment read.now
+    ensures reply { IfOk result (λ out. MessageReadStepsOn (settings_of S.Store desk.old) moment read.now
         out.items (tables_of S.Store desk.old) (tables_of S.Store desk.new)) }
     ensures err { OnErr result (LeavesTables (tables_of S.Store desk.old) (tables_of S.Store desk.new)) }
     ensures left { LeavesDesk S.Store desk.old desk.new }
@@ -89,7 +89,7 @@ fn answer_read<S: Backend>(
     moment: u32,
     desk: &mut Desk<S>,
 ) -> Result<Vec<u8>, AllocError>
-    ensures reply { IfOk result (λ out. SentStepsOn (settings_of S.Store desk.old) moment
+    ensures reply { IfOk result (λ out. MessageReadStepsOn (settings_of S.Store desk.old) moment
         (Ok request.now) out.items (tables_of S.Store desk.old) (tables_of S.Store desk.new)) }
     ensures err { OnErr result (LeavesTables (tables_of S.Store desk.old) (tables_of S.Store desk.new)) }
     ensures left { LeavesDesk S.Store desk.old desk.new }
@@ -167,7 +167,7 @@ fn reply_to<S: Backend>(
 ) -> Result<(), AllocError>
     requires empty { room.old.items ≡ [] }
     requires room { 512 ≤ vec_capacity room.old }
-    ensures ok { OnOk result (AskedStepsOn (settings_of S.Store desk.old) at request.now
+    ensures ok { OnOk result (RequestPageStepsOn (settings_of S.Store desk.old) at request.now
         room.new.items (tables_of S.Store desk.old) (tables_of S.Store desk.new)) }
     ensures err { OnErr result ((room.new ≡ room.old) × StaysOn (settings_of S.Store desk.old)
         (tables_of S.Store desk.old) (tables_of S.Store desk.new)) }

@@ -3,7 +3,7 @@ ghost use Rattle.std.specs.Prelude.{◌≡◌, ◌≤◌, [], Err, IfErr, IfOk, 
 ghost use Rattle.std.specs.Vec.{vec_capacity};
 ghost use Rattle.service_core.specs.Leaves.{LeavesDesk};
 ghost use Rattle.service_core.specs.Seen.{settings_of, tables_of};
-ghost use Rattle.page_wire.specs.Steps.{VisitStepsOn};
+ghost use Rattle.page_wire.specs.Steps.{TimedPageStepsOn};
 ghost use Rattle.page_wire.specs.Visits as form;
 ghost use Rattle.wire_core.specs.Steps.{StaysOn};
 
@@ -33,7 +33,7 @@ pub(crate) fn make_visit<S: Backend>(
 ) -> Result<(), AllocError>
     requires empty { room.old.items ≡ [] }
     requires room { 512 ≤ vec_capacity room.old }
-    ensures ok { OnOk result (VisitStepsOn (settings_of S.Store desk.old) at visit.now
+    ensures ok { OnOk result (TimedPageStepsOn (settings_of S.Store desk.old) at visit.now
         room.new.items (tables_of S.Store desk.old) (tables_of S.Store desk.new)) }
     ensures err { OnErr result ((room.new ≡ room.old) × StaysOn (settings_of S.Store desk.old)
         (tables_of S.Store desk.old) (tables_of S.Store desk.new)) }

@@ -18,7 +18,7 @@ use Rattle.desk_forms.specs.Paths as path
 use Rattle.desk_forms.specs.Paths.{InQueue, Nothing, OnRequest, Part}
 use Rattle.desk_forms.specs.Table.{arguments}
 use Rattle.desk_forms.specs.declared.paths.Method.TheVariants.{Get, Post}
-use Rattle.desk_forms.specs.declared.table.Form.TheVariants as form
+use Rattle.desk_forms.specs.declared.table.CommandForm.TheVariants as form
 use Rattle.route_core.specs.Commands.{allow_by, asked_by, path_in, unasked_at, with_fault}
 use Rattle.route_core.specs.Cuts.{cut, text_in}
 use Rattle.route_core.specs.Fault.{fault_of, name_of, number_of}

@@ -9,7 +9,7 @@ use Rattle.desk_forms.specs.Keys.{queue_or, request_in}
 use Rattle.desk_forms.specs.Paths.{PathParameter}
 use Rattle.desk_forms.specs.ArgumentSource.{ArgumentSource}
 use Rattle.desk_forms.specs.Asked.{asked}
-use Rattle.desk_forms.specs.declared.table.Form.{Form}
+use Rattle.desk_forms.specs.declared.table.CommandForm.{CommandForm}
 
 -- what the path and the body give, by the keys of arguments
 abbrev pub sheet_of : PathParameter → Members → ArgumentSource
@@ -24,6 +24,6 @@ sheet_of b members = record {
 }
 
 -- the command of a form, where the members have no other keys than its arguments
-abbrev pub said_by : Form → PathParameter → Members → Option Command
+abbrev pub said_by : CommandForm → PathParameter → Members → Option Command
 said_by form b members =
     if has_only b (arguments form) members then asked form (sheet_of b members) else None

@@ -10,7 +10,7 @@ use Rattle.desk_forms.specs.Paths.{queue}
 use Rattle.desk_forms.specs.declared.paths.PathParameter.{PathParameter as BoundInCode}
 use Rattle.desk_forms.specs.declared.paths.Method.{Method}
 use Rattle.desk_forms.specs.declared.paths.Method.TheVariants.{Get, Post}
-use Rattle.desk_forms.specs.declared.table.Form.{Form}
+use Rattle.desk_forms.specs.declared.table.CommandForm.{CommandForm}
 use Rattle.route_core.specs.Cuts.{cut, text_in}
 use Rattle.route_core.specs.declared.places.Place.{Place as PlaceInCode}
 
@@ -61,7 +61,7 @@ is_method a b = false
 -- a method, the form of a command, and what a path names for it
 pub record Place : Type 0 where
   pub method : Method
-  pub leads : Form
+  pub leads : CommandForm
   pub bound : PathParameter
 
 abbrev pub at : Row → PathParameter → Place

@@ -10,13 +10,13 @@ ghost use Rattle.route_core.specs.Places.{place_in};
 use crate::cuts::{cut, text_in};
 use desk_forms::number_of_word;
 use desk_forms::paths::{Method, Part, Path, PathParameter};
-use desk_forms::table::Form;
+use desk_forms::table::CommandForm;
 
 /// A method, the form of a command, and what a path names for it.
 #[derive(Clone, Copy)]
 pub(crate) struct Place<'a> {
     pub method: Method,
-    pub leads: Form,
+    pub leads: CommandForm,
     pub bound: PathParameter<'a>,
 }
 

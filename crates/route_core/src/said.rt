@@ -8,7 +8,7 @@ ghost use Rattle.route_core.specs.JsonArguments as said;
 use crate::members::{Members, has_only, number_at, text_at, text_or_none_at, texts_at};
 use desk_forms::asked::{ArgumentSource, asked};
 use desk_forms::paths::PathParameter;
-use desk_forms::table::{Form, args_of};
+use desk_forms::table::{CommandForm, args_of};
 use desk_model::Command;
 use std::alloc::{AllocError, Global};
 use text_core::Texts;
@@ -66,7 +66,7 @@ impl ArgumentSource for JsonArguments<'_> {
 /// the form needs.
 pub(crate) fn said_by(
     alloc: Global,
-    of: Form,
+    of: CommandForm,
     bound: PathParameter<'_>,
     members: &Members,
 ) -> Result<Option<Command>, AllocError>

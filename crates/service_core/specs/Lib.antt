@@ -7,10 +7,10 @@ pub mod Fault
 pub mod Finding
 pub mod Leaves
 pub mod Loading
+pub mod QueueVisibility
 pub mod Renewing
 pub mod Seen
 pub mod Shown
-pub mod QueueVisibility
 pub mod Streaming
 pub mod TableSteps
 pub mod Telling

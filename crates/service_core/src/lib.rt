@@ -10,7 +10,7 @@
 //!   (`IsStep`); or `Unavailable`. A refusal changes no table, whatever rows there are.
 //! - `Desk::execute_all` is a run of such steps, to a well-formed desk (`RunsOn`). Where there is no
 //!   room for its answers nothing is done.
-//! - `Desk::told` is `execute` and the text of what came of it (`TellsOn`). A command that changes
+//! - `Desk::execute_as_text` is `execute` and the text of what came of it (`TellsOn`). A command that changes
 //!   the desk has the room for its text before its step. Where there is no memory for the text the
 //!   command is `Unavailable`, and the desk stays.
 //! - `Desk::stream` writes what `execute` would answer to `ls` or `overdue`, the two commands that it
@@ -24,6 +24,7 @@
 #![tactic(auto)]
 
 pub mod alike;
+mod answer_text;
 mod attach;
 pub mod desk;
 mod dossier;
@@ -41,8 +42,8 @@ mod run;
 mod sight;
 mod stays;
 mod stream;
-mod told;
 
+pub use answer_text::AnswerText;
 pub use attach::knows_tables;
 pub use desk::Desk;
 pub use desk_reports::StreamFault;
@@ -51,4 +52,3 @@ pub use desk_texts::{
     put_short, queues_text, refusal_text, show_text, text_in_room, workload_text,
 };
 pub use fault::AttachFault;
-pub use told::Told;

@@ -75,7 +75,7 @@ fn facts_by_scope<S: Alter>(
         Scope::Nothing => Ok(no_facts(alloc)),
         Scope::QueueAlone(name) => facts_of_queue(alloc, tables, name),
         Scope::Queue(name) => facts_on_queue(alloc, tables, name),
-        Scope::RequestAlone(id) => facts_of(alloc, tables, id),
+        Scope::RequestAlone(id) => request_facts(alloc, tables, id),
         Scope::Request(id) => request_facts_with_stays(alloc, tables, id),
         Scope::Dependencies(id) => facts_of_move(alloc, tables, id),
         Scope::Link(link) => facts_of_link(alloc, tables, link),
@@ -112,7 +112,11 @@ fn facts_on_queue<S: Alter>(
 }
 
 /// Of a command that leaves a request's row: the request and its queue.
-fn facts_of<S: Alter>(alloc: Global, tables: &mut Tables<S>, id: u32) -> Result<Facts, StoreFault>
+fn request_facts<S: Alter>(
+    alloc: Global,
+    tables: &mut Tables<S>,
+    id: u32,
+) -> Result<Facts, StoreFault>
     ensures { Reads (OfDesk (λ desk seen. seen ≡ facts.facts_of_request desk id))
         (seen S.Store tables.old) (seen S.Store tables.new) result }
 {
@@ -167,7 +171,7 @@ fn facts_of_link<S: Alter>(
     ensures { Reads (OfDesk (λ desk seen. seen ≡ seen_in (Scope.Link link) desk))
         (seen S.Store tables.old) (seen S.Store tables.new) result }
 {
-    let facts = facts_of(alloc, tables, link.source)?;
+    let facts = request_facts(alloc, tables, link.source)?;
     match other_end(alloc, tables, link, facts.request.is_some()) {
         Ok((other, is_linked)) => Ok(with_link(facts, other, is_linked)),
         Err(fault) => {

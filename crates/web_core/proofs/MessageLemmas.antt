@@ -16,7 +16,7 @@ use Rattle.store_tables.specs.Calls.{LeavesTables}
 use Rattle.wire_core.specs.Replies.{TellsFault}
 use Rattle.wire_core.specs.Runs.{Sent}
 use Rattle.wire_core.proofs.Stepping.{leads_nowhere, leads_same, leads_wider}
-use Rattle.page_wire.specs.Steps.{SentStepsOn}
+use Rattle.page_wire.specs.Steps.{MessageReadStepsOn}
 use Rattle.web_core.specs.Control.{IsTold, control_by, control_of, copy_told, stop_reply}
 use Rattle.web_core.specs.Dates.{IsDatedAt}
 use Rattle.web_core.specs.Messages.{IsRepliedOn, IsReplyTo, IsSentOn, IsSentTo, IsTakenAs, TakenSteps}
@@ -104,7 +104,7 @@ by_control s sent copied expects read control bytes old new unexpected told is r
 pub answered : (s : Settings) (sent : Sent) (copied expects : Bool) (read : Result Request WireFault)
     (bytes : List ℕ) (old new : State) → expects ≡ false → TellsExpecting sent.1 expects
     → Nothing ≡ control_by expects s read → Reads sent.1 read
-    → SentStepsOn s sent.0 read bytes old new → IsRepliedOn s sent bytes old new
+    → MessageReadStepsOn s sent.0 read bytes old new → IsRepliedOn s sent bytes old new
 answered s sent copied expects read bytes old new unexpected told is reads steps =
     by_control s sent copied expects read Nothing bytes old new unexpected told is reads steps
 

@@ -12,7 +12,7 @@ use Rattle.message_core.specs.declared.fault.WireFault.{WireFault}
 use Rattle.message_core.specs.declared.request.Request.{Request}
 use Rattle.wire_core.specs.Runs.{Sent}
 use Rattle.wire_core.specs.Steps.{LeavesOut}
-use Rattle.page_wire.specs.Steps.{IsReadOf, SentSteps}
+use Rattle.page_wire.specs.Steps.{IsReadOf, MessageReadSteps}
 use Rattle.server_core.specs.Turns.{Answered}
 use Rattle.web_core.specs.Control.{control_of, copy_told, stop_reply}
 use Rattle.web_core.specs.Dates.{IsDated}
@@ -26,7 +26,7 @@ sent_of a = (a.at, a.message)
 -- not, and the desk stays; any other message is answered by the pages or the interface.
 abbrev pub TakenSteps : Settings → ℕ → Bool → Result Request WireFault → Control → Desk → List ℕ
     → Desk → Type 0
-TakenSteps settings at copied read Nothing old bytes new = SentSteps settings at read old bytes new
+TakenSteps settings at copied read Nothing old bytes new = MessageReadSteps settings at read old bytes new
 TakenSteps settings at copied read Stop old bytes new =
     (bytes ≡ bytes_of stop_reply) × (new ≡ old)
 TakenSteps settings at copied read Copy old bytes new =

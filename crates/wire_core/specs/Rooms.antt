@@ -15,4 +15,4 @@ pub record IsEmpty (room : Room) : Type 0 where
 
 -- where a text has to stand with its head, none stands by itself
 abbrev pub IsWhole : Room → Room → Type 0
-IsWhole old new = old.whole ≡ true → new.text ≡ []
+IsWhole old new = old.joins_body ≡ true → new.text ≡ []

@@ -11,7 +11,7 @@ ghost use Rattle.wire_core.specs.Rooms.{IsEmpty, IsWhole, held_in};
 use crate::replies::{outcome_reply, stream_reply, unasked_reply};
 use message_core::{Reply, WireFault, answer_bytes, put_reply, unavailable_reply};
 use route_core::Unasked;
-use service_core::Told;
+use service_core::AnswerText;
 use std::alloc::{AllocError, Global};
 use text_core::Sequence;
 
@@ -29,19 +29,19 @@ pub(crate) struct Room {
     /// The text of a long reply, which isn't copied behind its head.
     pub(crate) text: Sequence<u8>,
     /// Whether a text has to stand with its head.
-    whole: bool,
+    joins_body: bool,
 }
 
 impl Room {
     /// Room for any short reply.
     pub(crate) fn new(alloc: Global, whole: bool) -> Result<Room, AllocError>
         ensures empty { IfOk result (λ room. IsEmpty room) }
-        ensures whole { IfOk result (λ room. room.whole ≡ whole) }
+        ensures whole { IfOk result (λ room. room.joins_body ≡ whole) }
     {
         Ok(Room {
             head: Vec::with_capacity(alloc, SHORT_REPLY)?,
             text: Sequence::from(Vec::new(alloc)),
-            whole,
+            joins_body: whole,
         })
     }
 }
@@ -51,7 +51,7 @@ impl Room {
 pub(crate) fn put_told(
     alloc: Global,
     head_only: bool,
-    told: Told,
+    told: AnswerText,
     room: &mut Room,
 ) -> Result<(), AllocError>
     requires told { told.text.items ≡ outcome_text told.outcome }
@@ -101,7 +101,7 @@ fn put(alloc: Global, reply: Reply, room: &mut Room) -> Result<(), AllocError>
         put_reply(&reply, &mut room.head);
         return Ok(());
     }
-    if room.whole {
+    if room.joins_body {
         put_whole(alloc, &reply, room)
     } else {
         put_body_apart(reply, room);

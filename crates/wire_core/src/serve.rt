@@ -152,7 +152,7 @@ fn answer_in_room<R: Read, S: Backend>(
     ensures answered { IsAnswer (settings_of S.Store desk.old) moment
         (left_in R.remaining reader.old) (left_in R.remaining reader.new) (reply_in result)
         (tables_of S.Store desk.old) (tables_of S.Store desk.new) }
-    ensures given { HasRoomOrLeft room.whole result desk.old desk.new }
+    ensures given { HasRoomOrLeft room.joins_body result desk.old desk.new }
     ensures left { LeavesDesk S.Store desk.old desk.new }
 {
     let mut room = room;

@@ -95,7 +95,7 @@ fn do_command<S: Backend>(
     ensures whole { IsWhole room.old room.new }
     ensures left { LeavesDesk S.Store desk.old desk.new }
 {
-    match desk.told(alloc, at, caller, command) {
+    match desk.execute_as_text(alloc, at, caller, command) {
         Ok(told) => put_told(alloc, head_only, told, room),
         Err(_) => Err(AllocError),
     }

@@ -4,7 +4,7 @@ use Rattle.serde_json.specs.Data.{no_members}
 use Rattle.serde_json.specs.View.{members_view}
 use Rattle.desk_forms.specs.Kinds.{argument_of}
 use Rattle.desk_forms.specs.Paths.{bound_of}
-use Rattle.desk_forms.specs.Values.{values_of}
+use Rattle.desk_forms.specs.Arguments.{values_of}
 use Rattle.client_core.specs.Body.{with_all}
 use Rattle.client_core.proofs.body.members_of.Given as goal
 

@@ -1,7 +1,7 @@
 -- the parts that are left name what all do
 use Rattle.std.proofs.Common.{◌≡◌, map, drop}
 use Rattle.desk_forms.specs.Paths.{part_of}
-use Rattle.desk_forms.specs.Values.{values_of}
+use Rattle.desk_forms.specs.Arguments.{values_of}
 use Rattle.client_core.specs.Target.{named}
 use Rattle.client_core.proofs.target.named.Given as goal
 

@@ -1,6 +1,6 @@
 use Rattle.std.proofs.Common.{◌≡◌, map, drop}
 use Rattle.desk_forms.specs.Kinds.{argument_of}
-use Rattle.desk_forms.specs.Values.{many_in}
+use Rattle.desk_forms.specs.Arguments.{many_in}
 use Rattle.desk_forms.proofs.asked.many_in.Given as goal
 
 abbrev pub invariant-loop-arg : goal.invariant-loop-arg

@@ -3,7 +3,7 @@ use Rattle.std.proofs.Common.{◌∙◌, ap, lit<}
 use Rattle.std.proofs.lemmas.Iterator.Consumers.{YieldsList-at, YieldsList-end}
 use Rattle.std.proofs.lemmas.Iterator.Splits.{YieldsList-from_str_split}
 use Rattle.std.specs.List.{filter}
-use Rattle.find_form.specs.Sought.{is_word}
+use Rattle.find_form.specs.SearchFields.{is_word}
 use Rattle.find_form.proofs.words.words_in.Goals as goal
 
 pub returns : goal.returns

@@ -2,14 +2,14 @@
 use Rattle.std.proofs.Common.{Option, refl, subst}
 use Rattle.find_form.specs.declared.form.FindForm.{FindForm}
 use Rattle.service_core.specs.Seen.{settings_of}
-use Rattle.page_wire.specs.Steps.{FindSteps, LookedBy, TypedSteps}
+use Rattle.page_wire.specs.Steps.{FindSteps, LookedBy, SearchFormSteps}
 use Rattle.page_wire.proofs.Steps.{looked_out}
 use Rattle.page_wire.proofs.render.find.Goals as goal
 
 pub returns-in-Ok : goal.returns-in-Ok
 returns-in-Ok g c =
     subst (λ (form : Option FindForm). LookedBy g.S.Store c.args.desk.now c.typed.new.desk
-    (TypedSteps (settings_of g.S.Store c.args.desk.now) c.args.moment c.args.caller.now
+    (SearchFormSteps (settings_of g.S.Store c.args.desk.now) c.args.moment c.args.caller.now
     c.args.query.now c.args.start form) c.typed.result) c.in-Ok.ensures c.typed.ensures
 
 pub returns-in-Err : goal.returns-in-Err

@@ -1,7 +1,7 @@
 -- each list is found, and what each queue has, over the tables that the call before left
 use Rattle.std.proofs.Common.{◌≡◌, ◌∙◌, IfOk, None, subst}
 use Rattle.settings_core.specs.declared.settings.Settings.{Settings}
-use Rattle.find_form.specs.Own.{asked_by, owned_by, unowned}
+use Rattle.find_form.specs.HomeSearches.{asked_by, owned_by, unowned}
 use Rattle.service_core.specs.Finding.{FindsOn}
 use Rattle.service_core.specs.Loading.{LoadsOn}
 use Rattle.service_core.specs.Seen.{settings_of, tables_of}

@@ -1,7 +1,7 @@
 -- the search that was typed, or its fault
 use Rattle.std.proofs.Common.{◌≡◌, Err, Ok, Result, refl, subst, sym}
 use Rattle.find_core.specs.declared.search.Search.{Search}
-use Rattle.find_form.specs.Sought.{search_of}
+use Rattle.find_form.specs.SearchFields.{search_of}
 use Rattle.find_form.specs.declared.fault.FindFault.{FindFault}
 use Rattle.service_core.specs.Seen.{settings_of}
 use Rattle.page_wire.specs.Steps.{LookedBy, SearchSteps}

@@ -13,10 +13,10 @@ use Rattle.desk_forms.specs.Kinds.{Argument}
 use Rattle.desk_forms.specs.ArgumentSource.{ArgumentSource}
 use Rattle.desk_forms.specs.declared.kinds.Kind.{Kind}
 use Rattle.desk_forms.specs.declared.kinds.Kind.TheVariants as kind
-use Rattle.desk_forms.specs.declared.values.Values.{Values as InCode}
+use Rattle.desk_forms.specs.declared.arguments.Arguments.{Arguments as InCode}
 
 -- a value of each kind
-pub record Values : Type 0 where
+pub record Arguments : Type 0 where
   pub id : ℕ
   pub other : ℕ
   pub queue : List ℕ
@@ -24,11 +24,11 @@ pub record Values : Type 0 where
   pub maybe : Option (List ℕ)
   pub role : WatchRole
   pub link : NamedKind
-  pub away : Bool
+  pub delete : Bool
 
 -- before anything is read
-abbrev pub blank : Values
-blank = record {
+abbrev pub no_arguments : Arguments
+no_arguments = record {
   id = 0;
   other = 0;
   queue = [];
@@ -36,11 +36,11 @@ blank = record {
   maybe = None;
   role = Requestor;
   link = Plain DependsOn;
-  away = false;
+  delete = false;
 }
 
 -- the values with what is given for an argument, if that is of its kind
-abbrev pub put : Kind → List ℕ → ArgumentSource → Values → Option Values
+abbrev pub put : Kind → List ℕ → ArgumentSource → Arguments → Option Arguments
 put kind.Id k sheet v = option_map (λ n. record v { id = n }) (sheet.id k)
 put kind.Other k sheet v = option_map (λ n. record v { other = n }) (sheet.number k)
 put kind.Queue k sheet v = option_map (λ t. record v { queue = t }) (sheet.queue k)
@@ -52,9 +52,9 @@ put kind.Link k sheet v =
 put kind.Maybe k sheet v = option_map (λ t. record v { maybe = t }) (sheet.maybe k)
 put kind.Named k sheet v = option_map (λ t. record v { maybe = t }) (sheet.maybe k)
 put kind.Many k sheet v = Some v
-put (kind.Flag letter) k sheet v = Some (record v { away = sheet.is_set k })
+put (kind.Flag letter) k sheet v = Some (record v { delete = sheet.is_set k })
 
-abbrev pub put_all : List Argument → ArgumentSource → Values → Option Values
+abbrev pub put_all : List Argument → ArgumentSource → Arguments → Option Arguments
 put_all [] sheet v = Some v
 put_all (a ∷ rest) sheet v = option_and_then (put_all rest sheet) (put a.kind a.key sheet v)
 
@@ -68,7 +68,7 @@ many_in [] sheet = Some []
 many_in (a ∷ rest) sheet = if is_many a.kind then sheet.texts a.key else many_in rest sheet
 
 -- the values as the code holds them
-abbrev pub values_of : InCode → Values
+abbrev pub values_of : InCode → Arguments
 values_of v = record {
   id = v.id;
   other = v.other;
@@ -77,5 +77,5 @@ values_of v = record {
   maybe = option_map (λ t. t.now) v.maybe;
   role = v.role;
   link = v.link;
-  away = v.away;
+  delete = v.delete;
 }

@@ -1,7 +1,7 @@
 //! What is sought by what was typed.
 
 ghost use Rattle.std.specs.Prelude.{◌≡◌, ◌≢◌, ◌<◌, ◌≤◌, Err, IfErr, IfOk, Ok};
-ghost use Rattle.find_form.specs.Sought as spec;
+ghost use Rattle.find_form.specs.SearchFields as spec;
 
 use crate::fault::FindFault;
 use crate::form::FindForm;

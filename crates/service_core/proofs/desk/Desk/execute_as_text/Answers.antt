@@ -5,7 +5,7 @@ use Rattle.service_core.specs.Seen.{settings_of, tables_of}
 use Rattle.service_core.specs.TableSteps.{StepOverTables, ask_by}
 use Rattle.service_core.proofs.LeftLemmas.{left_same}
 use Rattle.service_core.proofs.Telling.{at_err, left_out, left_out_if_long}
-use Rattle.service_core.proofs.desk.Desk.told.Goals as goal
+use Rattle.service_core.proofs.desk.Desk.execute_as_text.Goals as goal
 
 pub returns-in-Ok-clause-ok : goal.returns-in-Ok-clause-ok
 returns-in-Ok-clause-ok g c = record {

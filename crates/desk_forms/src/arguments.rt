@@ -2,8 +2,8 @@
 
 ghost use Rattle.std.specs.Prelude.{◌≡◌, IfOk};
 ghost use Rattle.std.specs.Option.{option_map};
-ghost use Rattle.desk_forms.specs.Values as values;
-ghost use Rattle.desk_forms.specs.Values.{values_of};
+ghost use Rattle.desk_forms.specs.Arguments as values;
+ghost use Rattle.desk_forms.specs.Arguments.{values_of};
 
 use crate::links::NamedKind;
 use desk_model::{LinkKind, WatchRole};
@@ -12,7 +12,7 @@ use text_core::{Text, Texts};
 
 /// A value of each kind.
 #[derive(Clone, Copy)]
-pub struct Values<'a> {
+pub struct Arguments<'a> {
     pub id: u32,
     pub other: u32,
     pub queue: &'a str,
@@ -20,14 +20,14 @@ pub struct Values<'a> {
     pub maybe: Option<&'a str>,
     pub role: WatchRole,
     pub link: NamedKind,
-    pub away: bool,
+    pub delete: bool,
 }
 
 /// Before anything is read.
-pub(crate) fn blank<'a>() -> Values<'a>
-    ensures { values_of result ≡ values.blank }
+pub(crate) fn no_arguments<'a>() -> Arguments<'a>
+    ensures { values_of result ≡ values.no_arguments }
 {
-    Values {
+    Arguments {
         id: 0,
         other: 0,
         queue: "",
@@ -35,7 +35,7 @@ pub(crate) fn blank<'a>() -> Values<'a>
         maybe: None,
         role: WatchRole::Requestor,
         link: NamedKind::Plain(LinkKind::DependsOn),
-        away: false,
+        delete: false,
     }
 }
 

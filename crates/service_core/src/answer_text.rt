@@ -17,14 +17,14 @@ use store_core::Backend;
 
 /// What came of a command, and its text.
 #[derive(Drop)]
-pub struct Told {
+pub struct AnswerText {
     /// The answer, or the refusal.
     pub outcome: Result<Answer, Refusal>,
     /// The text, which ends with a line feed unless it is empty.
     pub text: Vec<u8>,
 }
 
-impl Told {
+impl AnswerText {
     /// The text alone.
     pub fn into_text(self) -> Vec<u8>
         ensures { result ≡ self.text }
@@ -40,13 +40,13 @@ impl<S: Backend> Desk<S> {
     ///
     /// `AllocError` where there is no memory for that room, or for the text of a command that only
     /// read: what came of the command is then `Unavailable`, and the desk is as it was.
-    pub fn told(
+    pub fn execute_as_text(
         &mut self,
         alloc: Global,
         at: u32,
         caller: &str,
         command: &Command,
-    ) -> Result<Told, AllocError>
+    ) -> Result<AnswerText, AllocError>
         ensures ok { IfOk result (λ told. TellsOn (settings_of S.Store self.old)
             (ask_by at caller.now command.now)
             (tables_of S.Store self.old) (tables_of S.Store self.new)
@@ -59,7 +59,7 @@ impl<S: Backend> Desk<S> {
         let room = Vec::with_capacity(alloc, SHORT_TEXT)?;
         let outcome = self.execute(alloc, at, caller, command);
         match text_in_room(alloc, &outcome, room) {
-            Ok(text) => Ok(Told { outcome, text }),
+            Ok(text) => Ok(AnswerText { outcome, text }),
             Err(_) => {
                 drop(outcome);
                 Err(AllocError)

@@ -1,7 +1,7 @@
 use Rattle.std.proofs.Common.{◌∙◌, rules}
 use Rattle.store_tables.proofs.ReadOn.{failed_at, giving, then}
 use Rattle.store_core.proofs.FactsLemmasOfDesk.{request_alone}
-use Rattle.store_core.proofs.facts.facts_of.Goals as goal
+use Rattle.store_core.proofs.facts.request_facts.Goals as goal
 
 pub returns : goal.returns
 returns g c =

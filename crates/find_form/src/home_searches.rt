@@ -1,7 +1,7 @@
 //! The searches of the first page: what is open, by its due moment.
 
 ghost use Rattle.std.specs.Prelude.{◌≡◌, IfOk, None, Some};
-ghost use Rattle.find_form.specs.Own as spec;
+ghost use Rattle.find_form.specs.HomeSearches as spec;
 
 use find_core::{Order, OwnerAsked, Search, StatusAsked};
 use std::alloc::{AllocError, Global};
