@@ -1,5 +1,6 @@
 """The parts that need no browser: the pages' heads and markup, texts that would be markup, and
 messages that no page of the desk sends."""
+import hashlib
 import re
 import time
 
@@ -70,9 +71,11 @@ def shown():
     with serving("shown") as visitor:
         for person, place, code in SHOWN:
             page(f"{person} at {place}", visitor.get(place, person), code)
-        sheet = re.search(r'href="(/style\.css\?\d+)"', visitor.get("/").text)
-        holds("a style sheet is named with its number", sheet)
-        reply = visitor.get(sheet[1] if sheet else "/style.css", None)
+        sheet = re.search(r'href="/style\.css\?([0-9a-f]{8})"', visitor.get("/").text)
+        holds("a style sheet is named", sheet)
+        reply = visitor.get(f"/style.css?{sheet[1]}" if sheet else "/style.css", None)
+        expect("its name is its checksum", sheet and sheet[1],
+               hashlib.sha256(reply.body).hexdigest()[:8])
         expect("the style sheet", (reply.code, reply.head("content-type")),
                (200, "text/css; charset=utf-8"))
         expect("it is kept", reply.head("cache-control"), "public, max-age=31536000, immutable")
@@ -263,8 +266,6 @@ def bodies():
             ("half an escape", f"{at}/reply", "text=%4"),
             ("an escape that is none", f"{at}/reply", "text=%zz"),
             ("no UTF-8", f"{at}/reply", "text=%ff%fe"),
-            ("a number that is none", "/desk/go", "number=12a"),
-            ("a number too large", "/desk/go", "number=4294967296"),
             ("a role that is none", f"{at}/watch", "role=owner&person=ann"),
             ("a kind that is none", f"{at}/link", "kind=Likes&other=1"),
         ):
@@ -289,7 +290,7 @@ def methods():
     """Methods that a place doesn't take, and places that only take a form."""
     with serving("methods") as visitor:
         for line, allow in (("PUT /", "GET, HEAD"), ("POST /", "GET, HEAD"), ("DELETE /desk/overdue", "GET, HEAD"),
-                            ("PATCH /desk/go", "GET, HEAD, POST"), ("POST /style.css", "GET, HEAD"),
+                            ("POST /desk/go?q=1", "GET, HEAD"), ("POST /style.css", "GET, HEAD"),
                             (f"PUT /desk/requests/{TALK}/take", "GET, HEAD, POST")):
             reply = visitor.send(line, visitor.lines_of("bob"), "")
             page(line, reply, 405)
@@ -297,7 +298,14 @@ def methods():
         reply = visitor.send("HEAD /", visitor.lines_of("bob"))
         expect("HEAD", (reply.code, reply.body), (200, b""))
         for place, to in ((f"/desk/requests/{TALK}/reply", f"/desk/requests/{TALK}"),
-                          ("/desk/queues", "/"), ("/desk/go", "/"), ("/sign-out", "/")):
+                          ("/desk/queues", "/"), ("/sign-out", "/"), ("/desk/go", "/desk/find?"),
+                          ("/desk/go?q=7", "/desk/requests/7"),
+                          ("/desk/go?q=+%237+", "/desk/requests/7"),
+                          ("/desk/go?q=7a", "/desk/find?words=7a"),
+                          ("/desk/go?q=4294967296", "/desk/find?words=4294967296"),
+                          ("/desk/go?q=a%0D%0Ab+%26", "/desk/find?words=a%0D%0Ab+%26"),
+                          ("/desk/go?q=%zz", "/desk/find?words=%zz"),
+                          ("/desk/go?p=7", "/desk/find?"), ("/desk/go?q=", "/desk/find?words=")):
             reply = visitor.get(place)
             expect(f"GET {place}", (reply.code, reply.head("location")), (303, to))
 

@@ -2,6 +2,7 @@
 
 use crate::files::read_settings;
 use crate::options::Asked;
+use crate::rehearsal::would_begin;
 use check_core::files::{Finding, first_finding};
 use desk_program::tell_input_fault;
 use std::io;
@@ -16,14 +17,23 @@ const BAD_SETTINGS: u8 = 3;
 /// The exit status where the tables have a fault, or a write failed, or there is no memory.
 const BAD_TABLES: u8 = 4;
 
+const NOTHING_WRONG: &str = "nothing is wrong";
+
 /// Checks the settings and the file of tables, prints what is wrong first, and answers the exit
-/// status.
+/// status. What is found in the tables counts only where a load doesn't begin over them: it makes
+/// those that are missing.
 pub fn run(rt: &HostRuntime, asked: &Asked<'_>) -> u8 {
     match read_settings(rt, asked.settings) {
         Ok(settings) => match first_finding(rt, asked.tables, settings.as_slice()) {
-            Ok(None) => print(rt, DONE, "nothing is wrong"),
+            Ok(None) => print(rt, DONE, NOTHING_WRONG),
             Ok(Some(Finding::Settings(told))) => print(rt, BAD_SETTINGS, told.as_str()),
-            Ok(Some(Finding::Tables(told))) => print(rt, BAD_TABLES, told.as_str()),
+            Ok(Some(Finding::Tables(told))) => {
+                if would_begin(rt, asked.tables, settings.as_slice()) {
+                    print(rt, DONE, NOTHING_WRONG)
+                } else {
+                    print(rt, BAD_TABLES, told.as_str())
+                }
+            }
             Err(_) => print(rt, BAD_TABLES, "out of memory"),
         },
         Err(fault) => tell_input_fault(fault, &mut CountedWriter::new(&mut io::writer(rt))),

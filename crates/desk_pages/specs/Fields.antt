@@ -7,7 +7,7 @@ use Rattle.settings_core.specs.declared.named.Named.{Named}
 use Rattle.page_core.specs.Page.{Part}
 use Rattle.page_core.specs.Template.{filled}
 use Rattle.desk_pages.specs.Pieces.{choice, parts_if}
-use Rattle.desk_pages.specs.declared.frame.TheConstants.{DIGITS}
+use Rattle.desk_pages.specs.declared.fields.TheConstants.{DIGITS}
 use Rattle.desk_pages.specs.declared.markup.fields.TheConstants.{LEVEL_END, LEVEL_TOP}
 use Rattle.desk_pages.specs.declared.markup.fields.TheConstants.{LINKING, WATCHING}
 

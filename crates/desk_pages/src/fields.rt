@@ -5,7 +5,6 @@ ghost use Rattle.page_core.specs.Page.{page_bytes};
 ghost use Rattle.desk_pages.specs.Fields as form;
 ghost use Rattle.desk_pages.specs.Pieces.{parts_if};
 
-use crate::frame::DIGITS;
 use crate::markup::fields::{LEVEL_END, LEVEL_TOP, LINKING, WATCHING};
 use crate::pieces::put_choice;
 use hours_core::Level;
@@ -13,6 +12,9 @@ use page_core::{Value, fill};
 use settings_core::Named;
 use std::alloc::AllocError;
 use text_core::Text;
+
+/// What a field for the number of a request takes, as browsers are told it.
+const DIGITS: &str = "[0-9]+";
 
 /// Puts the forms for the level, in which the present one is chosen at first, and for links, where the
 /// request may be changed, and the one for watchers, where persons may be set.

@@ -11,10 +11,12 @@ use Rattle.find_form.specs.declared.shown.Start.TheVariants.{First, After, Befor
 use Rattle.session_core.specs.declared.session.Lasts.TheVariants.{Day, Month}
 use Rattle.page_routes.specs.Faults.{name_of, number_of, status_of}
 use Rattle.page_routes.specs.FormArguments.{filled, names_in, needed, others}
+use Rattle.page_routes.specs.Fronts.{behind}
+use Rattle.page_routes.specs.HeadBox.{box_page}
 use Rattle.page_routes.specs.Paths.{path_of, reply_path}
-use Rattle.page_routes.specs.Places.{act_named, behind, fixed, is_page_path, method_named, path_in}
+use Rattle.page_routes.specs.Places.{act_named, fixed, is_page_path, method_named, path_in}
 use Rattle.page_routes.specs.Places.{queue_page, takes_post}
-use Rattle.page_routes.specs.Visits.{acted, asked_at, asked_by, form_of, going, page_or_home, sent_on}
+use Rattle.page_routes.specs.Visits.{acted, asked_at, asked_by, form_of, page_or_home, sent_on}
 use Rattle.page_routes.specs.Visits.{is_search, lasts_of, sent_in, signed_by}
 use Rattle.page_routes.specs.declared.fault.PageFault.TheVariants.{NoRoute, BadMethod, OtherSite}
 use Rattle.page_routes.specs.declared.fault.PageFault.TheVariants.{BadBody}
@@ -207,14 +209,23 @@ search_is_one = refl
 queue_is_no_search : is_search (pages.Queue (codes "it")) ≡ false
 queue_is_no_search = refl
 
-request_by_its_number : going (field (codes "number") (codes "7") ∷ []) ≡ Ok (visits.Go 7)
+request_by_its_number : box_page (codes "q=7") ≡ pages.Request 7
 request_by_its_number = refl
 
-number_with_a_letter : going (field (codes "number") (codes "7a") ∷ []) ≡ Err BadBody
+number_with_its_sign : box_page (codes "q=+%23" ++ codes "7+") ≡ pages.Request 7
+number_with_its_sign = refl
+
+words_as_they_were_coded : box_page (codes "q=paper+j%C3%A4m") ≡ pages.Find (codes "words=paper+j%C3%A4m") First
+words_as_they_were_coded = refl
+
+number_with_a_letter : box_page (codes "q=7a") ≡ pages.Find (codes "words=7a") First
 number_with_a_letter = refl
 
-field_too_many : going (field (codes "number") (codes "7") ∷ field (codes "a") [] ∷ []) ≡ Err BadBody
-field_too_many = refl
+number_of_no_request : box_page (codes "q=4294967296") ≡ pages.Find (codes "words=4294967296") First
+number_of_no_request = refl
+
+nothing_typed : box_page [] ≡ pages.Find [] First
+nothing_typed = refl
 
 reply_with_a_status :
     sent_on forms.Reply 7 (field (codes "text") (codes "Hi") ∷ field (codes "status") (codes "open") ∷ [])

@@ -1,7 +1,6 @@
 -- What a message asks of the pages.
 use Rattle.std.specs.Prelude.{ℕ, Bool, true, false, if◌then◌else◌, List, [], ◌∷◌, codes}
 use Rattle.std.specs.Prelude.{Option, Some, None, Result, Ok, Err, unwrap_or}
-use Rattle.std.specs.Option.{option_and_then}
 use Rattle.hours_core.specs.Moment.{is_due_moment}
 use Rattle.desk_model.specs.declared.command.Command.{Command}
 use Rattle.settings_core.specs.declared.settings.Settings.{Settings}
@@ -15,7 +14,6 @@ use Rattle.browser_core.specs.Site.{is_own_post}
 use Rattle.browser_core.specs.Texts.{text_in}
 use Rattle.browser_core.specs.Trim.{trimmed}
 use Rattle.browser_core.specs.declared.form.Field.{Field}
-use Rattle.desk_forms.specs.Number.{number_of}
 use Rattle.desk_forms.specs.Paths.{InQueue, Nothing, OnRequest}
 use Rattle.desk_forms.specs.declared.paths.Method.{Method}
 use Rattle.desk_forms.specs.declared.paths.Method.TheVariants.{Get, Post}
@@ -74,11 +72,12 @@ abbrev pub looked : Page → Option (List ℕ) → PageRequest
 looked page None = visits.Unknown page true
 looked page (Some caller) = visits.Look caller page
 
--- a place that only takes POST leads to where its form stands
+-- the box in the head leads on, and a place that only takes POST to where its form stands
 abbrev pub got : Settings → ℕ → Lines → Place → PageRequest
 got settings at lines places.Style = visits.Style
 got settings at lines places.SignIn = visits.SignIn
 got settings at lines (places.Page page) = looked page (looker settings at lines page)
+got settings at lines (places.Go page) = visits.Leads page
 got settings at lines (places.Act act id) = visits.Leads (pages.Request id)
 got settings at lines _ = visits.Leads pages.Home
 
@@ -126,15 +125,6 @@ signing settings at (Some fields) =
 
 -- ---- commands
 
-abbrev pub went : Option ℕ → Answer
-went None = Err BadBody
-went (Some id) = Ok (visits.Go id)
-
-abbrev pub going : List Field → Answer
-going fields =
-    if has_fields (codes "number" ∷ []) [] fields
-    then went (option_and_then number_of (value_of (codes "number") fields)) else Err BadBody
-
 -- the value of a field, and nothing where there is none
 abbrev pub typed : List ℕ → List Field → List ℕ
 typed name fields = unwrap_or (value_of name fields) []
@@ -156,7 +146,6 @@ acted caller sent (Some command) = Ok (visits.Act caller command sent)
 
 -- what a caller's fields ask at a place that takes a command
 abbrev pub asked_at : List ℕ → Place → List Field → Answer
-asked_at caller places.Go fields = going fields
 asked_at caller places.Queues fields =
     acted caller sends.Queue (command_in forms.OpenQueue Nothing fields)
 asked_at caller (places.Act act id) fields =

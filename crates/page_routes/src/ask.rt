@@ -6,11 +6,11 @@ ghost use Rattle.page_routes.specs.FormArguments.{filled};
 ghost use Rattle.page_routes.specs.Visits as visits;
 
 use crate::fault::PageFault;
-use crate::filled::{command_in, filled_value, number_at, typed};
+use crate::filled::{command_in, filled_value, typed};
 use crate::page::Page;
 use crate::place::Place;
 use crate::visit::{PageRequest, SubmittedForm};
-use browser_core::{Field, fields_of, has_fields};
+use browser_core::{Field, fields_of};
 use desk_forms::paths::PathParameter;
 use desk_forms::table::CommandForm;
 use desk_model::Command;
@@ -63,7 +63,6 @@ fn asked_at(
         → visits.asked_at caller place fields.now ≡ Err fault) }
 {
     match place {
-        Place::Go => going(fields),
         Place::Queues => {
             let command = command_in(
                 alloc,
@@ -87,19 +86,6 @@ fn asked_at(
             acted(caller, sent_in(alloc, queue, fields)?, command)
         }
         _ => Err(PageFault::BadMethod { posts: false }),
-    }
-}
-
-/// To go to the number of a field.
-fn going(fields: &[Field]) -> Result<PageRequest, PageFault>
-    ensures { result ≡ visits.going fields.now }
-{
-    if !has_fields(fields, &["number"], &[]) {
-        return Err(PageFault::BadBody);
-    }
-    match number_at(fields, "number") {
-        Some(id) => Ok(PageRequest::Go { id }),
-        None => Err(PageFault::BadBody),
     }
 }
 

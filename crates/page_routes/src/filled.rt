@@ -58,7 +58,7 @@ pub(crate) fn filled_value<'f>(fields: &'f [Field], name: &str) -> Option<&'f st
 }
 
 /// The number that a field's value is.
-pub(crate) fn number_at(fields: &[Field], name: &str) -> Option<u32>
+fn number_at(fields: &[Field], name: &str) -> Option<u32>
     ensures { result ≡ option_and_then number.number_of (value_in name.now fields.now) }
 {
     match value_of(fields, name) {

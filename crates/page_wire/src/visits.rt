@@ -83,7 +83,6 @@ fn fixed(alloc: Global, visit: &PageRequest) -> Result<Vec<u8>, AllocError>
         PageRequest::SignOut => signed_out(alloc),
         PageRequest::Leads(next) => leads_on(alloc, next),
         PageRequest::Unknown { next, to_get } => sign_in(alloc, 403, next, false, *to_get),
-        PageRequest::Go { id } => leads_on(alloc, &Page::Request(*id)),
         PageRequest::NoMoment | PageRequest::Look { .. } | PageRequest::Act { .. } => clock_reply(
             alloc,
         ),
