@@ -96,7 +96,7 @@ module _ (s : Settings) (at : ℕ) (message : Message) (lines : Lines) (h : Bool
   place_leaves None is steps = steps.1
   place_leaves (Some place) is steps =
       let told = subst (λ (m : Option Method). PageSteps s at h (visited s at lines message.body place m)
-          old bytes new) is steps in
+      old bytes new) is steps in
       got_leaves s at old new told.0 lines place told.1.0
 
   -- ---- another site
