@@ -12,7 +12,7 @@ use Rattle.session_core.specs.declared.session.Lasts.TheVariants.{Day, Month}
 use Rattle.page_routes.specs.Faults.{name_of, number_of, status_of}
 use Rattle.page_routes.specs.FormArguments.{filled, names_in, needed, others}
 use Rattle.page_routes.specs.Fronts.{behind}
-use Rattle.page_routes.specs.HeadBox.{box_page}
+use Rattle.page_routes.specs.HeadBox.{box_page, leads, unmarked, words_query}
 use Rattle.page_routes.specs.Paths.{path_of, reply_path}
 use Rattle.page_routes.specs.Places.{act_named, fixed, is_page_path, method_named, path_in}
 use Rattle.page_routes.specs.Places.{queue_page, takes_post}
@@ -209,20 +209,23 @@ search_is_one = refl
 queue_is_no_search : is_search (pages.Queue (codes "it")) ≡ false
 queue_is_no_search = refl
 
-request_by_its_number : box_page (codes "q=7") ≡ pages.Request 7
+request_by_its_number : leads (Some 7) (codes "q=7") ≡ pages.Request 7
 request_by_its_number = refl
 
-number_with_its_sign : box_page (codes "q=+%23" ++ codes "7+") ≡ pages.Request 7
-number_with_its_sign = refl
+number_sign_is_left_out : unmarked (codes "#7") ≡ codes "7"
+number_sign_is_left_out = refl
 
-words_as_they_were_coded : box_page (codes "q=paper+j%C3%A4m") ≡ pages.Find (codes "words=paper+j%C3%A4m") First
+number_without_a_sign_stays : unmarked (codes "7#") ≡ codes "7#"
+number_without_a_sign_stays = refl
+
+words_as_they_were_coded : words_query (Some (codes "paper+j%C3%A4m")) ≡ codes "words=paper+j%C3%A4m"
 words_as_they_were_coded = refl
 
-number_with_a_letter : box_page (codes "q=7a") ≡ pages.Find (codes "words=7a") First
-number_with_a_letter = refl
+what_was_typed_stands_behind : behind (codes "q=") (codes "q=jam") ≡ Some (codes "jam")
+what_was_typed_stands_behind = refl
 
-number_of_no_request : box_page (codes "q=4294967296") ≡ pages.Find (codes "words=4294967296") First
-number_of_no_request = refl
+field_that_the_box_has_not : behind (codes "q=") (codes "p=jam") ≡ None
+field_that_the_box_has_not = refl
 
 nothing_typed : box_page [] ≡ pages.Find [] First
 nothing_typed = refl
