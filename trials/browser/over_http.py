@@ -5,6 +5,7 @@ import re
 import time
 
 from client import cookie_of
+from pages import of_another
 from sessions import DAY, MONTH
 
 from browser import markup
@@ -259,15 +260,17 @@ def bodies():
     with serving("bodies") as visitor:
         at = f"/desk/requests/{TALK}"
         for what, place, body in (
-            ("a field twice", f"{at}/give", "person=cid&person=ann"),
-            ("a field too much", f"{at}/take", "person=cid"),
-            ("a field that lacks", f"{at}/watch", "role=cc"),
-            ("no field", f"{at}/reply", ""),
-            ("half an escape", f"{at}/reply", "text=%4"),
-            ("an escape that is none", f"{at}/reply", "text=%zz"),
-            ("no UTF-8", f"{at}/reply", "text=%ff%fe"),
-            ("a role that is none", f"{at}/watch", "role=owner&person=ann"),
-            ("a kind that is none", f"{at}/link", "kind=Likes&other=1"),
+            ("a field twice", f"{at}/give", "me=bob&person=cid&person=ann"),
+            ("a field too much", f"{at}/take", "me=bob&person=cid"),
+            ("a field that lacks", f"{at}/watch", "me=bob&role=cc"),
+            ("nobody's page", f"{at}/take", ""),
+            ("two persons' page", f"{at}/take", "me=bob&me=bob"),
+            ("no field", f"{at}/reply", "me=bob"),
+            ("half an escape", f"{at}/reply", "me=bob&text=%4"),
+            ("an escape that is none", f"{at}/reply", "me=bob&text=%zz"),
+            ("no UTF-8", f"{at}/reply", "me=bob&text=%ff%fe"),
+            ("a role that is none", f"{at}/watch", "me=bob&role=owner&person=ann"),
+            ("a kind that is none", f"{at}/link", "me=bob&kind=Likes&other=1"),
         ):
             reply = visitor.post(place, body)
             page(what, reply, 400)
@@ -277,13 +280,39 @@ def bodies():
             expect(f"{what}: it is taken", visitor.post(f"{at}/reply", {"text": text}).code, 303)
             last = visitor.told(f"/requests/{TALK}/history").text.splitlines()[-1]
             expect(f"{what}: as it is kept", last.partition("reply ")[2], wanted)
-        expect("a lone CR", visitor.post(f"{at}/reply", "text=a%0Db").code, 400)
+        expect("a lone CR", visitor.post(f"{at}/reply", "me=bob&text=a%0Db").code, 400)
         longest = {"text": "漢" * 20_000}
         expect("the longest text", visitor.post(f"{at}/reply", longest).code, 303)
         holds("it is shown whole", longest["text"] in visitor.get(at).text)
-        reply = visitor.post(f"{at}/reply", "text=" + "a" * 300_000)
+        reply = visitor.post(f"{at}/reply", "me=bob&text=" + "a" * 300_000)
         expect("a body that is too long", (reply.code, "bad message 1 TooLong" in reply.text),
                (400, True))
+
+
+def other_persons():
+    """A form of another person's page does nothing. Its page says so, and has what was typed."""
+    with serving("other") as visitor:
+        at = f"/desk/requests/{TALK}"
+        before = visitor.told(f"/requests/{TALK}/history").body
+        count = visitor.told("/queues/support/requests").body
+        for place, fields in (
+            (f"{at}/reply", {"text": "a <b>text</b>", "status": "stalled"}), (f"{at}/comment", {"text": "an aside"}),
+            (f"{at}/status", {"status": "stalled"}), (f"{at}/untake", {}),
+            ("/desk/queues/support/new", {"subject": "A badge", "requestors": "ann", "text": "of a visitor"}),
+            ("/desk/queues", {"queue": "more", "lifecycle": "default", "level": ""}),
+        ):
+            reply = visitor.post(place, {"me": "ann", **fields})
+            code, said = of_another("bob", "ann")
+            page(f"ann's form at {place}", reply, code)
+            shown = markup.texts(reply.text)
+            holds(f"{place}: it isn't said", any(said in it for it in shown))
+            lost = [it for name, it in fields.items() if name in ("text", "subject", "requestors")
+                    and not any(it in one for one in shown)]
+            expect(f"{place}: what was typed and isn't kept", lost, [])
+            if "text" in fields:
+                holds(f"{place}: it can't be sent by bob", 'name="me" value="bob"' in reply.text)
+        expect("the history after them", visitor.told(f"/requests/{TALK}/history").body, before)
+        expect("the queue after them", visitor.told("/queues/support/requests").body, count)
 
 
 def methods():
@@ -362,4 +391,4 @@ def cookies():
 
 
 PARTS = {"shown": shown, "apart": tell_apart, "refused": refused, "half": half_done, "same": same,
-         "posts": posts, "bodies": bodies, "methods": methods, "cookies": cookies}
+         "posts": posts, "bodies": bodies, "other": other_persons, "methods": methods, "cookies": cookies}

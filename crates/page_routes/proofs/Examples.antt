@@ -156,11 +156,11 @@ path_of_the_end_of_a_history = refl
 
 -- FormArguments.antt
 
-form_of_a_link : needed forms.Link ≡ codes "kind" ∷ codes "other" ∷ []
+form_of_a_link : needed forms.Link ≡ codes "me" ∷ codes "kind" ∷ codes "other" ∷ []
 form_of_a_link = refl
 
-form_of_taking_has_no_fields : needed forms.Take ≡ []
-form_of_taking_has_no_fields = refl
+form_of_taking_has_one_field : needed forms.Take ≡ codes "me" ∷ []
+form_of_taking_has_one_field = refl
 
 status_beside_a_reply : others forms.Reply ≡ codes "status" ∷ []
 status_beside_a_reply = refl
@@ -249,21 +249,40 @@ new_request_with_a_status = refl
 other_acts_send_a_change : sent_on forms.Take 7 [] ≡ sends.Change 7
 other_acts_send_a_change = refl
 
-no_command_is_a_bad_body : acted (codes "ann") (sends.Change 7) None ≡ Err BadBody
+no_command_is_a_bad_body : acted (codes "ann") (codes "ann") (sends.Change 7) None ≡ Err BadBody
 no_command_is_a_bad_body = refl
 
 command_of_a_caller :
-    acted (codes "ann") (sends.Change 7) (Some (command.Take 7))
+    acted (codes "ann") (codes "ann") (sends.Change 7) (Some (command.Take 7))
     ≡ Ok (visits.Act (codes "ann") (command.Take 7) (sends.Change 7))
 command_of_a_caller = refl
 
+command_of_another_persons_page :
+    acted (codes "bob") (codes "ann") (sends.Change 7) (Some (command.Take 7))
+    ≡ Ok (visits.OtherPerson (codes "ann") (codes "bob") (sends.Change 7))
+command_of_another_persons_page = refl
+
 taking_by_a_post :
-    asked_at (codes "ann") (places.Act forms.Take 7) []
+    asked_at (codes "ann") (places.Act forms.Take 7) (field (codes "me") (codes "ann") ∷ [])
     ≡ Ok (visits.Act (codes "ann") (command.Take 7) (sends.Change 7))
 taking_by_a_post = refl
 
+taking_of_another_persons_page :
+    asked_at (codes "ann") (places.Act forms.Take 7) (field (codes "me") (codes "bob") ∷ [])
+    ≡ Ok (visits.OtherPerson (codes "ann") (codes "bob") (sends.Change 7))
+taking_of_another_persons_page = refl
+
+taking_of_nobodys_page : asked_at (codes "ann") (places.Act forms.Take 7) [] ≡ Err BadBody
+taking_of_nobodys_page = refl
+
+taking_of_a_page_told_twice :
+    asked_at (codes "ann") (places.Act forms.Take 7)
+    (field (codes "me") (codes "ann") ∷ field (codes "me") (codes "ann") ∷ []) ≡ Err BadBody
+taking_of_a_page_told_twice = refl
+
 taking_with_a_field :
-    asked_at (codes "ann") (places.Act forms.Take 7) (field (codes "a") [] ∷ []) ≡ Err BadBody
+    asked_at (codes "ann") (places.Act forms.Take 7)
+    (field (codes "me") (codes "ann") ∷ field (codes "a") [] ∷ []) ≡ Err BadBody
 taking_with_a_field = refl
 
 post_to_a_page_without_one : asked_at (codes "ann") (places.Page pages.Home) [] ≡ Err (BadMethod false)

@@ -1,6 +1,7 @@
 -- What a message asks of the pages.
 use Rattle.std.specs.Prelude.{ℕ, Bool, true, false, if◌then◌else◌, List, [], ◌∷◌, codes}
 use Rattle.std.specs.Prelude.{Option, Some, None, Result, Ok, Err, unwrap_or}
+use Rattle.std.specs.Str.{bytes_eq}
 use Rattle.hours_core.specs.Moment.{is_due_moment}
 use Rattle.desk_model.specs.declared.command.Command.{Command}
 use Rattle.settings_core.specs.declared.settings.Settings.{Settings}
@@ -140,18 +141,29 @@ sent_in queue fields =
     sends.New queue (typed (codes "subject") fields) (typed (codes "requestors") fields)
     (typed (codes "text") fields) (filled (value_of (codes "status") fields))
 
-abbrev pub acted : List ℕ → SubmittedForm → Option Command → Answer
-acted caller sent None = Err BadBody
-acted caller sent (Some command) = Ok (visits.Act caller command sent)
+-- the person on whose page the form stood
+abbrev pub person_in : List Field → List ℕ
+person_in fields = typed (codes "me") fields
+
+-- a form of another person's page is no command
+abbrev pub sent_from : List ℕ → List ℕ → SubmittedForm → Command → PageRequest
+sent_from person caller sent command =
+    if bytes_eq person caller then visits.Act caller command sent
+    else visits.OtherPerson caller person sent
+
+abbrev pub acted : List ℕ → List ℕ → SubmittedForm → Option Command → Answer
+acted person caller sent None = Err BadBody
+acted person caller sent (Some command) = Ok (sent_from person caller sent command)
 
 -- what a caller's fields ask at a place that takes a command
 abbrev pub asked_at : List ℕ → Place → List Field → Answer
 asked_at caller places.Queues fields =
-    acted caller sends.Queue (command_in forms.OpenQueue Nothing fields)
+    acted (person_in fields) caller sends.Queue (command_in forms.OpenQueue Nothing fields)
 asked_at caller (places.Act act id) fields =
-    acted caller (sent_on act id fields) (command_in act (OnRequest id) fields)
+    acted (person_in fields) caller (sent_on act id fields) (command_in act (OnRequest id) fields)
 asked_at caller (places.Page (pages.New queue)) fields =
-    acted caller (sent_in queue fields) (command_in forms.Create (InQueue queue) fields)
+    acted (person_in fields) caller (sent_in queue fields)
+    (command_in forms.Create (InQueue queue) fields)
 asked_at caller _ fields = Err (BadMethod false)
 
 -- where the form of such a place stands

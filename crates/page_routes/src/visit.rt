@@ -87,6 +87,13 @@ pub enum PageRequest {
         caller: Text,
         page: Page,
     },
+    /// POST of any other place by a form of another person's page: nothing is done, and the page that
+    /// says so has what was typed.
+    OtherPerson {
+        caller: Text,
+        person: Text,
+        sent: SubmittedForm,
+    },
     /// POST of any other place: a command.
     Act {
         caller: Text,

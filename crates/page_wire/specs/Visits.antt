@@ -37,4 +37,5 @@ IsFixed visit.SignOut bytes = bytes ≡ signed_out
 IsFixed (visit.Leads next) bytes = bytes ≡ leads_on next
 IsFixed (visit.Unknown next to_get) bytes = bytes ≡ sign_in 403 next false to_get
 IsFixed (visit.Look caller page) bytes = bytes ≡ clock_reply
+IsFixed (visit.OtherPerson caller person sent) bytes = bytes ≡ clock_reply
 IsFixed (visit.Act caller command sent) bytes = bytes ≡ clock_reply

@@ -20,6 +20,7 @@ mod render;
 mod replies;
 mod serve;
 mod submit;
+mod unsent;
 mod visits;
 
 pub use serve::{answer_sent, read_sent};
