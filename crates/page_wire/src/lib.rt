@@ -18,6 +18,7 @@ mod redirect;
 mod render;
 mod replies;
 mod serve;
+mod sign_in;
 mod submit;
 mod unsent;
 mod visits;
