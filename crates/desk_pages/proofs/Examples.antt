@@ -20,6 +20,7 @@ use Rattle.desk_pages.specs.Pills.{chosen_of}
 use Rattle.desk_pages.specs.Refused.{crumb, to_request}
 use Rattle.desk_pages.specs.Rows.{row_told}
 use Rattle.desk_pages.specs.Search.{chosen_in}
+use Rattle.desk_pages.specs.SignIn.{kept}
 use Rattle.desk_pages.specs.Sought.{heading_of, is_told, place_of, title_of, told}
 use Rattle.desk_pages.specs.Unsent.{other_heading, other_note, said_of}
 use Rattle.desk_pages.specs.Workload.{late_told, most}
@@ -66,6 +67,15 @@ form_of_another_person :
     ++ codes "s: nothing was sent.</p>\n"
 unfolding filled_from other_heading other_note
 form_of_another_person = refl
+
+text_that_comes_along :
+    page_bytes (kept [] (codes "ann") (codes "a\"b") [])
+    ≡ codes "<input type=\"hidden\" name=\"subject\" value=\"\">\n"
+    ++ codes "<input type=\"hidden\" name=\"requestors\" value=\"ann\">\n"
+    ++ codes "<input type=\"hidden\" name=\"text\" value=\"a&quot;b\">\n"
+    ++ codes "<input type=\"hidden\" name=\"status\" value=\"\">\n"
+unfolding filled_from
+text_that_comes_along = refl
 
 nothing_is_filled : is_filled {X = ℕ} [] ≡ false
 nothing_is_filled = refl
