@@ -16,7 +16,7 @@ unfoldable pub other_note : List ℕ → List ℕ → List Part
 other_note caller person =
     filled NOTE.now
     (other_heading ∷ codes "You are signed in as " ∷ caller ∷ codes " now. This form was "
-    ∷ person ∷ quote ++ codes "s: nothing was sent." ∷ []) []
+    ∷ person ∷ (quote ++ codes "s: nothing was sent.") ∷ []) []
 
 -- nobody was signed in, and now the caller is
 unfoldable pub own_heading : List ℕ

@@ -47,16 +47,24 @@ pub(crate) fn make_visit<S: Backend>(
             put(made, room)
         }
         (
+            PageRequest::Act {
+                caller,
+                command,
+                sent,
+            },
+            Some(moment),
+        ) => submit_form(alloc, caller.as_str(), command, sent, moment, desk, room),
+        (
             PageRequest::OtherPerson {
                 caller,
                 person,
                 sent,
             },
             Some(moment),
-        ) => put(
-            other_person_reply(alloc, caller.as_str(), moment, person, sent),
-            room,
-        ),
+        ) => {
+            let made = other_person_reply(alloc, caller.as_str(), moment, person, sent);
+            put(made, room)
+        }
         (
             PageRequest::Resumed {
                 caller,
@@ -65,18 +73,10 @@ pub(crate) fn make_visit<S: Backend>(
                 sent,
             },
             Some(moment),
-        ) => put(
-            resumed_reply(alloc, caller.as_str(), moment, cookie, *keep, sent),
-            room,
-        ),
-        (
-            PageRequest::Act {
-                caller,
-                command,
-                sent,
-            },
-            Some(moment),
-        ) => submit_form(alloc, caller.as_str(), command, sent, moment, desk, room),
+        ) => {
+            let made = resumed_reply(alloc, caller.as_str(), moment, cookie, *keep, sent);
+            put(made, room)
+        }
         _ => put(fixed(alloc, visit), room),
     }
 }
