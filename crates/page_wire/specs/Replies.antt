@@ -40,7 +40,7 @@ use Rattle.page_reply.specs.declared.reply.CookieChange.TheVariants.{Keep, Sessi
 use Rattle.page_routes.specs.declared.page.Page as routes
 use Rattle.page_routes.specs.Paths.{form_path, path_of}
 use Rattle.page_routes.specs.declared.next.Next.{Next}
-use Rattle.page_routes.specs.declared.next.Next.TheVariants as next
+use Rattle.page_routes.specs.declared.next.Next.TheVariants as nexts
 use Rattle.page_routes.specs.declared.next.SubmittedForm.{SubmittedForm}
 use Rattle.page_routes.specs.declared.next.SubmittedForm.TheVariants as sent
 use Rattle.wire_core.specs.Replies.{code_of_refusal}
@@ -97,9 +97,9 @@ sign_in_form (sent.Comment id text) unknown =
 sign_in_form (sent.Change id) unknown = sign_in_page (form_path (sent.Change id)) unknown false
 
 abbrev pub sign_in : ℕ → Next → Bool → Bool → List ℕ
-sign_in status (next.Page page) unknown elsewhere =
+sign_in status (nexts.Page page) unknown elsewhere =
     with_page status (page_bytes (sign_in_page (path_of page) unknown elsewhere))
-sign_in status (next.Form sent) unknown elsewhere =
+sign_in status (nexts.Form sent) unknown elsewhere =
     with_page status (page_bytes (sign_in_form sent unknown))
 
 abbrev pub cookie_for : Bool → List ℕ → CookieChange

@@ -2,7 +2,7 @@
 ghost use Rattle.std.specs.Prelude.{◌≡◌, IfOk, [], unwrap_or};
 ghost use Rattle.http.specs.StatusCode.{IsStatusCode};
 ghost use Rattle.page_core.specs.Page.{page_bytes};
-ghost use Rattle.desk_pages.specs.SignIn as page;
+ghost use Rattle.desk_pages.specs.SignIn as asking;
 ghost use Rattle.page_wire.specs.Replies as form;
 
 use crate::replies::with_page;
@@ -91,7 +91,7 @@ fn kept_text(
     unknown: bool,
 ) -> Result<Vec<u8>, AllocError>
     ensures { IfOk result (λ out. out.items
-        ≡ page_bytes (page.kept_page next.now [] [] text.now status.now unknown)) }
+        ≡ page_bytes (asking.kept_page next.now [] [] text.now status.now unknown)) }
 {
     let typed = Typed {
         subject: "",

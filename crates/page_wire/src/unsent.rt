@@ -28,7 +28,8 @@ pub(crate) fn refused_reply(
         ≡ form.refused_reply caller.now moment sent.now refusal) }
 {
     let status = code_of_refusal(&refusal);
-    let page = unsent_form(alloc, caller, moment, sent, &Unsent::Refused(refusal))?;
+    let why = Unsent::Refused(refusal);
+    let page = unsent_form(alloc, caller, moment, sent, &why)?;
     with_page(alloc, status, page)
 }
 
@@ -60,7 +61,8 @@ pub(crate) fn resumed_reply(
     ensures { IfOk result (λ out. out.items
         ≡ form.resumed_reply caller.now moment cookie.now keep sent.now) }
 {
-    let page = unsent_form(alloc, caller, moment, sent, &Unsent::SignedIn)?;
+    let why = Unsent::SignedIn;
+    let page = unsent_form(alloc, caller, moment, sent, &why)?;
     let cookie = cookie.clone()?;
     with_cookie(alloc, cookie_for(keep, cookie), 200, page)
 }
