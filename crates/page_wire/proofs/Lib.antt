@@ -1,4 +1,4 @@
 pub mod Answering
 pub mod HeadOnly
-pub mod Laws
+pub mod PageLaws
 pub mod Steps
