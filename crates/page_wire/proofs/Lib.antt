@@ -1,4 +1,3 @@
 pub mod Answering
 pub mod HeadOnly
-pub mod PageLaws
 pub mod Steps
