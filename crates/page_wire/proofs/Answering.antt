@@ -113,10 +113,10 @@ fault_told s at fault (Ok out) tables told = leads_nowhere s _ tables (λ desk. 
 fault_told s at fault (Err e) tables told = tt
 
 by_no : (b : Bool) (Yes No : Type 0) → b ≡ false → No → IfElse b Yes No
-by_no b Yes No is holds = subst (λ (c : Bool). By c Yes No) (sym is) holds
+by_no b Yes No is holds = subst (λ (c : Bool). IfElse c Yes No) (sym is) holds
 
 by_yes : (b : Bool) (Yes No : Type 0) → b ≡ true → Yes → IfElse b Yes No
-by_yes b Yes No is holds = subst (λ (c : Bool). By c Yes No) (sym is) holds
+by_yes b Yes No is holds = subst (λ (c : Bool). IfElse c Yes No) (sym is) holds
 
 -- whoever asks whether the desk is there is told
 pub health_told : {A E : Type 0} (s : Settings) (at : ℕ) (request : Request) (h : Bool)
