@@ -1,6 +1,7 @@
-"""Tries that the tables are read as of one moment, and that nothing is written: while they are read,
-another client files a ticket. The tables that are written mustn't have it, and those that are written
-afterwards must. And a program that itself would file one has to fail."""
+"""Tries how tables are read: as of one moment, without a write, and in little memory. While they are read
+another client files a ticket: the tables that are written mustn't have it, and those that are written
+afterwards must. A program that itself would file one has to fail. And bodies of 60 MB mustn't be in the
+client's memory."""
 import os
 import shlex
 import sqlite3
@@ -13,6 +14,11 @@ import rows
 MARKS = {"psql": "\\echo # tickets", "mysql": "SELECT '# tickets';"}
 FILED = "INSERT INTO Tickets (id, EffectiveId, Queue, Type, Owner, Subject, Status, Creator, Created)" \
     " VALUES ({0}, {0}, 1, 'ticket', 6, 'late', 'open', 1, '2026-03-03 09:00:00');"
+
+BODIES = "INSERT INTO Attachments (id, TransactionId, Parent, ContentType, Content)" \
+    " WITH RECURSIVE one (id) AS (SELECT 9000 UNION ALL SELECT id + 1 FROM one WHERE id < 9059)" \
+    " SELECT id, 1001, 0, 'text/plain', REPEAT('x', 1048576) FROM one;"
+MOST_MEMORY = 40    # MB of a client, which has some 10 without any row
 
 
 def count(place):
@@ -48,6 +54,15 @@ def is_refused(database, program):
     return False
 
 
+def memory(database, program):
+    """How many MB a client takes at most."""
+    words = ["sh", program_at(database, program), *database.client("rt")[1:]]
+    process = subprocess.Popen(words, env=database.packages.environment(), stdout=subprocess.DEVNULL)
+    _, status, used = os.wait4(process.pid, 0)
+    process.returncode = os.waitstatus_to_exitcode(status)
+    return used.ru_maxrss / 1024 if status == 0 else float("inf")
+
+
 def differences(before, during, after):
     return [] if (during, after) == (before, before + 1) else \
         [f"{before} tickets before, {during} while another is filed, {after} after"]
@@ -64,8 +79,11 @@ def of_server(database):
     during = written(database, with_line(client, other))
     after = written(database, clients.commands(client, False))
     wrong = differences(before, during, after)
-    is_safe = is_refused(database, with_line(client, FILED.format(9002)))
-    return wrong + ([] if is_safe else ["a program that files a ticket isn't refused"])
+    if not is_refused(database, with_line(client, FILED.format(9002))):
+        wrong.append("a program that files a ticket isn't refused")
+    database.sql(BODIES)
+    used = memory(database, clients.commands(client, False))
+    return wrong + ([f"{used:.0f} MB of a client's memory"] if used > MOST_MEMORY else [])
 
 
 def of_file(database):
