@@ -61,14 +61,14 @@ def main():
         if id not in told:
             continue
         kind, wanted = told.pop(id)
-        counts["page of HTML" if kind == "text/html" else "text"] += 1
+        counts["pages of HTML" if kind == "text/html" else "texts"] += 1
         if not is_same(kind, wanted, found):
             wrong += 1
             if wrong <= SHOWN:
                 print(f"transaction {id}: {wanted!r:.200} in RT, {found!r:.200} here")
-    print(", ".join(f"{count:,} {kind}s" for kind, count in sorted(counts.items())), "as RT tells them:",
+    print(", ".join(f"{count:,} {kind}" for kind, count in sorted(counts.items())), "as RT tells them:",
           f"{wrong:,} others, {len(told):,} without a line")
-    return 1 if wrong or not counts["text"] else 0
+    return 1 if wrong or not counts["texts"] else 0
 
 
 if __name__ == "__main__":
