@@ -24,14 +24,14 @@ returns-in-Ok-Some-clause-ok g c =
     let at = c.args.moment in
     let caller = c.args.caller.now in
     let sent = c.args.sent.now in
-    form_stopped s at caller c.args.command.now sent c.in-Ok-Some.refusal c.put_refused-told.result
-    c.put_refused-told.new.room.items (tables_of g.S.Store c.args.desk.now)
+    form_stopped s at caller c.args.command.now sent c.in-Ok-Some.refusal c.put_refused.result
+    c.put_refused.new.room.items (tables_of g.S.Store c.args.desk.now)
     (sym c.in-Ok-Some.field-0-is ∙ c.in-Ok-Some.ensures
     ∙ ap (λ (u : Settings). refused_before u at caller sent) c.settings.ensures)
-    c.put_refused-told.ensures.ok
+    c.put_refused.ensures.ok
 
 pub returns-in-Ok-Some-clause-err : goal.returns-in-Ok-Some-clause-err
 returns-in-Ok-Some-clause-err g c =
-    stays_told (c.put_refused-told.new.room ≡ c.args.room.now)
-    (settings_of g.S.Store c.args.desk.now) c.put_refused-told.result
-    (tables_of g.S.Store c.args.desk.now) c.put_refused-told.ensures.err
+    stays_told (c.put_refused.new.room ≡ c.args.room.now)
+    (settings_of g.S.Store c.args.desk.now) c.put_refused.result
+    (tables_of g.S.Store c.args.desk.now) c.put_refused.ensures.err
