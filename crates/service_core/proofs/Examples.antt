@@ -1,10 +1,15 @@
--- Examples of the definitions: the ends of links by their kind, and which entries are told.
-use Rattle.std.specs.Prelude.{◌≡◌, refl, true, false, List, [], ◌∷◌, codes}
+-- Examples of the definitions: the ends of links by their kind, which entries are told, and parts of
+-- the first page.
+use Rattle.std.specs.Prelude.{◌≡◌, refl, true, false, List, [], ◌∷◌, codes, Ok, Err}
+use Rattle.desk_model.specs.declared.refusal.Refusal.TheVariants.{BadMoment}
 use Rattle.desk_model.specs.declared.rows.Entry.{Entry}
 use Rattle.desk_model.specs.declared.rows.EntryKind.{EntryKind}
 use Rattle.desk_model.specs.declared.rows.EntryKind.TheVariants.{Comment, Reply, Status}
 use Rattle.desk_model.specs.declared.rows.LinkKind.TheVariants.{DependsOn, MemberOf, RefersTo}
 use Rattle.desk_model.specs.declared.rows.LinkRow.{LinkRow}
+use Rattle.find_core.specs.declared.home.Home.{Home}
+use Rattle.find_core.specs.declared.search.Findings.{Findings}
+use Rattle.service_core.specs.Homes.{part_of}
 use Rattle.service_core.specs.Shown.{is_told, numbers_at}
 use Rattle.service_core.specs.declared.links.End.TheVariants.{Source, Target}
 
@@ -55,3 +60,21 @@ reply_is_always_told = (refl, refl)
 
 move_is_always_told : is_told false (entry Status) ≡ true
 move_is_always_told = refl
+
+abbrev nothing_found : Findings
+nothing_found = record { rows = []; count = 0 }
+
+abbrev empty_home : Home
+empty_home =
+    record {
+      own = record nothing_found { count = 1 };
+      asked = nothing_found;
+      free = nothing_found;
+      loads = [];
+    }
+
+part_of_a_page : part_of (λ h. h.own) (Ok empty_home) ≡ Ok (record { rows = []; count = 1 })
+part_of_a_page = refl
+
+part_of_a_refusal : part_of (λ h. h.loads) (Err BadMoment) ≡ Err BadMoment
+part_of_a_refusal = refl
