@@ -189,10 +189,12 @@ page_of_an_address = refl
 place_that_is_no_page : page_or_home (Some places.SignOut) ≡ pages.Home
 place_that_is_no_page = refl
 
-unknown_token : signed_by None true pages.Overdue ≡ visits.NotSignedIn pages.Overdue
+unknown_token : signed_by false None true pages.Overdue ≡ visits.NotSignedIn pages.Overdue
 unknown_token = refl
 
-known_token : signed_by (Some (codes "ann.1.0a")) true pages.Home ≡ visits.SignedIn (codes "ann.1.0a") true pages.Home
+known_token :
+    signed_by false (Some (codes "ann.1.0a")) true pages.Home
+    ≡ visits.SignedIn false (codes "ann.1.0a") true pages.Home
 known_token = refl
 
 kept_for_a_month : lasts_of true ≡ Month

@@ -9,7 +9,7 @@ use Rattle.session_core.specs.Sessions as sessions
 use Rattle.session_core.specs.declared.session.Lasts.{Lasts}
 use Rattle.session_core.specs.declared.session.Lasts.TheVariants.{Day, Month}
 use Rattle.message_core.specs.declared.message.Message.{Message}
-use Rattle.browser_core.specs.Cookie.{cookie_token}
+use Rattle.browser_core.specs.Cookie.{cookie_name, cookie_named}
 use Rattle.browser_core.specs.Form.{fields_of, has, has_fields, value_of}
 use Rattle.browser_core.specs.Site.{is_own_post}
 use Rattle.browser_core.specs.Texts.{text_in}
@@ -48,9 +48,10 @@ abbrev pub caller_by : Settings → ℕ → Option (List ℕ) → Option (List �
 caller_by settings at None = None
 caller_by settings at (Some cookie) = sessions.caller_of settings cookie at
 
--- the person for whom the cookie stands at a minute
-abbrev pub caller_of : Settings → ℕ → Lines → Option (List ℕ)
-caller_of settings at lines = caller_by settings at (cookie_token (lines (codes "Cookie")))
+-- the person for whom the cookie of this name stands at a minute
+abbrev pub caller_of : Bool → Settings → ℕ → Lines → Option (List ℕ)
+caller_of https settings at lines =
+    caller_by settings at (cookie_named (cookie_name https) (lines (codes "Cookie")))
 
 abbrev pub is_own : Lines → Bool
 is_own lines =
@@ -63,24 +64,24 @@ is_search (pages.Find query start) = true
 is_search page = false
 
 -- a search that another site opens is looked at by nobody
-abbrev pub searcher : Settings → ℕ → Lines → Option (List ℕ)
-searcher settings at lines = if is_own lines then caller_of settings at lines else None
+abbrev pub searcher : Bool → Settings → ℕ → Lines → Option (List ℕ)
+searcher https settings at lines = if is_own lines then caller_of https settings at lines else None
 
-abbrev pub looker : Settings → ℕ → Lines → Page → Option (List ℕ)
-looker settings at lines page =
-    if is_search page then searcher settings at lines else caller_of settings at lines
+abbrev pub looker : Bool → Settings → ℕ → Lines → Page → Option (List ℕ)
+looker https settings at lines page =
+    if is_search page then searcher https settings at lines else caller_of https settings at lines
 
 abbrev pub looked : Page → Option (List ℕ) → PageRequest
 looked page None = visits.Unknown page true
 looked page (Some caller) = visits.Look caller page
 
 -- a place that only takes POST leads to where its form stands
-abbrev pub got : Settings → ℕ → Lines → Place → PageRequest
-got settings at lines places.Style = visits.Style
-got settings at lines places.SignIn = visits.SignIn
-got settings at lines (places.Page page) = looked page (looker settings at lines page)
-got settings at lines (places.Act act id) = visits.Leads (pages.Request id)
-got settings at lines _ = visits.Leads pages.Home
+abbrev pub got : Bool → Settings → ℕ → Lines → Place → PageRequest
+got https settings at lines places.Style = visits.Style
+got https settings at lines places.SignIn = visits.SignIn
+got https settings at lines (places.Page page) = looked page (looker https settings at lines page)
+got https settings at lines (places.Act act id) = visits.Leads (pages.Request id)
+got https settings at lines _ = visits.Leads pages.Home
 
 -- ---- signing in
 
@@ -104,25 +105,25 @@ abbrev pub cookie_by : Settings → ℕ → Bool → Option (List ℕ) → Optio
 cookie_by settings at keep None = None
 cookie_by settings at keep (Some token) = sessions.signed_in settings token at (lasts_of keep)
 
-abbrev pub signed_by : Option (List ℕ) → Bool → Page → PageRequest
-signed_by None keep next = visits.NotSignedIn next
-signed_by (Some cookie) keep next = visits.SignedIn cookie keep next
+abbrev pub signed_by : Bool → Option (List ℕ) → Bool → Page → PageRequest
+signed_by https None keep next = visits.NotSignedIn next
+signed_by https (Some cookie) keep next = visits.SignedIn https cookie keep next
 
-abbrev pub signed_at : Settings → ℕ → List Field → PageRequest
-signed_at settings at fields =
-    signed_by (cookie_by settings at (has fields (codes "keep")) (token_in fields))
+abbrev pub signed_at : Bool → Settings → ℕ → List Field → PageRequest
+signed_at https settings at fields =
+    signed_by https (cookie_by settings at (has fields (codes "keep")) (token_in fields))
     (has fields (codes "keep")) (next_in fields)
 
 -- only at a moment of the desk
-abbrev pub signed : Settings → ℕ → List Field → PageRequest
-signed settings at fields =
-    if is_due_moment at then signed_at settings at fields else visits.NoMoment
+abbrev pub signed : Bool → Settings → ℕ → List Field → PageRequest
+signed https settings at fields =
+    if is_due_moment at then signed_at https settings at fields else visits.NoMoment
 
-abbrev pub signing : Settings → ℕ → Option (List Field) → Answer
-signing settings at None = Err BadBody
-signing settings at (Some fields) =
+abbrev pub signing : Bool → Settings → ℕ → Option (List Field) → Answer
+signing https settings at None = Err BadBody
+signing https settings at (Some fields) =
     if has_fields (codes "token" ∷ codes "next" ∷ []) (codes "keep" ∷ []) fields
-    then Ok (signed settings at fields) else Err BadBody
+    then Ok (signed https settings at fields) else Err BadBody
 
 -- ---- commands
 
@@ -179,30 +180,31 @@ asked_by place (Some caller) (Some fields) = asked_at caller place fields
 
 -- ---- POST
 
-abbrev pub posted : Settings → ℕ → Lines → List ℕ → Place → Answer
-posted settings at lines body places.SignIn = signing settings at (fields_of body)
-posted settings at lines body places.SignOut = Ok visits.SignOut
-posted settings at lines body place = asked_by place (caller_of settings at lines) (fields_of body)
+abbrev pub posted : Bool → Settings → ℕ → Lines → List ℕ → Place → Answer
+posted https settings at lines body places.SignIn = signing https settings at (fields_of body)
+posted https settings at lines body places.SignOut = Ok (visits.SignOut https)
+posted https settings at lines body place =
+    asked_by place (caller_of https settings at lines) (fields_of body)
 
-abbrev pub posted_from : Settings → ℕ → Lines → List ℕ → Place → Answer
-posted_from settings at lines body place =
-    if is_own lines then posted settings at lines body place else Err OtherSite
+abbrev pub posted_from : Bool → Settings → ℕ → Lines → List ℕ → Place → Answer
+posted_from https settings at lines body place =
+    if is_own lines then posted https settings at lines body place else Err OtherSite
 
 -- ---- a message
 
 -- the method comes first, and then, of a post, whose it is
-abbrev pub visited : Settings → ℕ → Lines → List ℕ → Place → Option Method → Answer
-visited settings at lines body place None = Err (BadMethod (takes_post place))
-visited settings at lines body place (Some Get) = Ok (got settings at lines place)
-visited settings at lines body place (Some Post) =
-    if takes_post place then posted_from settings at lines body place else Err (BadMethod false)
+abbrev pub visited : Bool → Settings → ℕ → Lines → List ℕ → Place → Option Method → Answer
+visited https settings at lines body place None = Err (BadMethod (takes_post place))
+visited https settings at lines body place (Some Get) = Ok (got https settings at lines place)
+visited https settings at lines body place (Some Post) =
+    if takes_post place then posted_from https settings at lines body place else Err (BadMethod false)
 
-abbrev pub visited_at : Settings → ℕ → Message → Lines → Option Place → Answer
-visited_at settings at message lines None = Err NoRoute
-visited_at settings at message lines (Some place) =
-    visited settings at lines message.body place (method_named message.method)
+abbrev pub visited_at : Bool → Settings → ℕ → Message → Lines → Option Place → Answer
+visited_at https settings at message lines None = Err NoRoute
+visited_at https settings at message lines (Some place) =
+    visited https settings at lines message.body place (method_named message.method)
 
 -- what a message with these header lines asks of the pages at a minute, or its fault
-abbrev pub visit_of : Settings → ℕ → Message → Lines → Answer
-visit_of settings at message lines =
-    visited_at settings at message lines (place_at message.target)
+abbrev pub visit_of : Bool → Settings → ℕ → Message → Lines → Answer
+visit_of https settings at message lines =
+    visited_at https settings at message lines (place_at message.target)

@@ -21,13 +21,14 @@ use text_core::Text;
 pub(crate) fn signing(
     alloc: Global,
     settings: &Settings,
+    https: bool,
     at: u32,
     body: &[u8],
 ) -> Result<PageRequest, PageFault>
     ensures ok { IfOk result (λ visit.
-        visits.signing settings.now at (form.fields_of body.now) ≡ Ok visit) }
+        visits.signing https settings.now at (form.fields_of body.now) ≡ Ok visit) }
     ensures err { IfErr result (λ fault. fault ≢ PageFault.NoMemory
-        → visits.signing settings.now at (form.fields_of body.now) ≡ Err fault) }
+        → visits.signing https settings.now at (form.fields_of body.now) ≡ Err fault) }
 {
     let Some(fields) = fields_of(alloc, body)? else {
         return Err(PageFault::BadBody);
@@ -35,20 +36,21 @@ pub(crate) fn signing(
     if !has_fields(fields.as_slice(), &["token", "next"], &["keep"]) {
         return Err(PageFault::BadBody);
     }
-    Ok(signed(alloc, settings, at, fields.as_slice())?)
+    Ok(signed(alloc, settings, https, at, fields.as_slice())?)
 }
 
 /// Whether the fields hold a token of the settings, and where they lead.
 fn signed(
     alloc: Global,
     settings: &Settings,
+    https: bool,
     at: u32,
     fields: &[Field],
 ) -> Result<PageRequest, AllocError>
-    ensures { IfOk result (λ visit. visit ≡ visits.signed settings.now at fields.now) }
+    ensures { IfOk result (λ visit. visit ≡ visits.signed https settings.now at fields.now) }
 {
     match Minute::new(at) {
-        Some(moment) => signed_at(alloc, settings, moment, fields),
+        Some(moment) => signed_at(alloc, settings, https, moment, fields),
         None => Ok(PageRequest::NoMoment),
     }
 }
@@ -57,16 +59,22 @@ fn signed(
 fn signed_at(
     alloc: Global,
     settings: &Settings,
+    https: bool,
     moment: Minute,
     fields: &[Field],
 ) -> Result<PageRequest, AllocError>
-    ensures { IfOk result (λ visit. visit ≡ visits.signed_at settings.now moment fields.now) }
+    ensures { IfOk result (λ visit. visit ≡ visits.signed_at https settings.now moment fields.now) }
 {
     let keep = has(fields, "keep");
     let cookie = cookie_by(alloc, settings, moment, keep, token_in(fields))?;
     let next = next_in(alloc, fields)?;
     match cookie {
-        Some(cookie) => Ok(PageRequest::SignedIn { cookie, keep, next }),
+        Some(cookie) => Ok(PageRequest::SignedIn {
+            https,
+            cookie,
+            keep,
+            next,
+        }),
         None => Ok(PageRequest::NotSignedIn { next }),
     }
 }

@@ -81,9 +81,9 @@ abbrev pub sign_in : ℕ → routes.Page → Bool → Bool → List ℕ
 sign_in status next unknown elsewhere =
     with_page status (page_bytes (sign_in_page (path_of next) unknown elsewhere))
 
-abbrev pub cookie_for : Bool → List ℕ → CookieChange
-cookie_for true cookie = Stay cookie
-cookie_for false cookie = Session cookie
+abbrev pub cookie_for : Bool → Bool → List ℕ → CookieChange
+cookie_for https true cookie = Stay https cookie
+cookie_for https false cookie = Session https cookie
 
 -- ---- pages
 
