@@ -14,7 +14,7 @@ unfoldable pub page_kind : List ℕ
 page_kind = codes "text/html; charset=utf-8"
 
 -- behind HTTPS a cookie goes by HTTPS alone
-abbrev pub secure : Bool → List ℕ
+unfoldable pub secure : Bool → List ℕ
 secure true = codes "; Secure"
 secure false = []
 

@@ -159,6 +159,7 @@ fn add_cookie(out: &mut Vec<u8>, https: bool, text: &str) -> Result<(), AllocErr
     add_text(out, secure(https))
 }
 
+#[tactic(auto, unfolding(crate::specs::PageReply::secure))]
 fn secure(https: bool) -> &'static str
     ensures { result.now ≡ form.secure https }
 {
