@@ -181,7 +181,9 @@ class Trial:
         """The page on which the form stands is looked at, and its hidden fields go with the form."""
         path, name, words = form_page(ask)
         self.page(ask, name, path, *words)
-        return hidden_of(self.browser.last, form(ask)[0])
+        fields = hidden_of(self.browser.last, form(ask)[0])
+        self.need(f"whose page {path} is", fields.get("me", ask.by), ask.by)
+        return fields
 
     # ---- many at once
 
