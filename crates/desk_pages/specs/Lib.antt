@@ -25,6 +25,6 @@ pub mod Rights
 pub mod Rows
 pub mod Search
 pub mod SignIn
-pub mod SearchPart
+pub mod Sought
 pub mod Workload
 pub mod Write
