@@ -34,6 +34,11 @@ def refusal_text(refusal):
     return f"refused {refusal.number} {refusal.name}{right}"
 
 
+def of_another(caller, person):
+    """What comes of a form that stood on another person's page: nothing is done, and this is said."""
+    return 409, f"You are signed in as {caller} now. This form was {person}’s: nothing was sent."
+
+
 # ---- lists
 
 def time_text(moment):

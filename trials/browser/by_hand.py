@@ -188,10 +188,14 @@ def filing():
         browser.follow(".sheet button")
         holds("the status isn't the chosen one", "status: open\n" in visitor.told(
             f"/requests/{number + 1}").text)
-        browser.put("[name=number]", "9")
+        browser.put("[name=q]", " #9 ")
         browser.key("Enter")
         browser.wait("Page.loadEventFired")
         expect("a number", browser.path(), "/desk/requests/9")
+        browser.put("[name=q]", "at once")
+        browser.key("Enter")
+        browser.wait("Page.loadEventFired")
+        expect("words", (browser.path(), "Open at once" in browser.text("main")), ("/desk/find", True))
         browser = signed_in(visitor, "dora")
         browser.put("#queue", "keys")
         browser.of_element("#level", "it.value = 'urgent'")
@@ -399,7 +403,7 @@ def keys():
             order.append(name)
             holds(f"it isn't seen that the keys go to {name}", browser.run(OUTLINED))
         expect("the first", order[:1], ["#main"])
-        wanted = {"/", "/desk/overdue", "number", "text", "status", "person", "level", "role",
+        wanted = {"/", "/desk/overdue", "q", "text", "status", "person", "level", "role",
                   "kind", "other"}
         expect("not reached by the keys", wanted - set(order), set())
         browser.open(visitor.origin + AT)

@@ -160,7 +160,7 @@ class Browser:
         path, fields = form(ask)
         if not self.ready(ask.by):
             return None
-        self.last = reply = self.send(path, {**(hidden or {}), **fields}, [f"Cookie: desk={self.kept[ask.by].value}"])
+        self.last = reply = self.send(path, {"me": ask.by, **(hidden or {}), **fields}, [f"Cookie: desk={self.kept[ask.by].value}"])
         if reply is None:
             return None
         if reply.code == 303:

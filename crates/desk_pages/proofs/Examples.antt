@@ -42,7 +42,7 @@ use Rattle.desk_pages.specs.Moves.{closing_after, closings, folded, may_go, offe
 use Rattle.desk_pages.specs.Owner.{owner_form}
 use Rattle.desk_pages.specs.Owners.{suggested}
 use Rattle.desk_pages.specs.Paging.{first_of, last_of, paging, paging_told, ways}
-use Rattle.desk_pages.specs.Pieces.{choice, is_filled, table_end}
+use Rattle.desk_pages.specs.Pieces.{choice, is_filled, quote, table_end}
 use Rattle.desk_pages.specs.Pills.{chosen_of}
 use Rattle.desk_pages.specs.RefusalPage.{typed}
 use Rattle.desk_pages.specs.Refused.{crumb, front_after, front_of, to_request}
@@ -52,6 +52,7 @@ use Rattle.desk_pages.specs.Rows.{late_by, row, row_told, row_top, table}
 use Rattle.desk_pages.specs.Search.{chosen_in, search_form}
 use Rattle.desk_pages.specs.SignIn.{sign_in_page}
 use Rattle.desk_pages.specs.Sought.{heading_of, is_told, place_of, title_of, told}
+use Rattle.desk_pages.specs.Unsent.{other_heading, other_note, said_of}
 use Rattle.desk_pages.specs.Workload.{late_told, most}
 use Rattle.desk_pages.specs.Write.{move_too, reply}
 use Rattle.desk_pages.specs.declared.frame.Place.TheVariants as at
@@ -59,6 +60,7 @@ use Rattle.desk_pages.specs.declared.markup.home.TheConstants.{HOME_TOP}
 use Rattle.desk_pages.specs.declared.markup.rows.TheConstants.{TABLE_TOP}
 use Rattle.desk_pages.specs.declared.markup.search.TheConstants.{SEARCH}
 use Rattle.desk_pages.specs.declared.markup.sign_in.TheConstants.{SIGN_IN}
+use Rattle.desk_pages.specs.declared.unsent.Unsent.TheVariants.{OtherPerson}
 
 choice_that_tries_to_be_markup :
     page_bytes (choice true (codes "a<b")) ≡ codes "<option selected>a&lt;b</option>\n"
@@ -70,7 +72,7 @@ unfolding choice filled_from
 choice_that_is_not_chosen = refl
 
 link_without_a_button :
-    page_bytes (link_row false 3 (codes "MemberOf") 12) ≡ codes "<a href=\"/desk/requests/12\">12</a> "
+    page_bytes (link_row false 3 (codes "ann") (codes "MemberOf") 12) ≡ codes "<a href=\"/desk/requests/12\">12</a> "
 unfolding digits filled_from link_row
 link_without_a_button = refl
 
@@ -85,6 +87,21 @@ way_back_to_a_request :
     ≡ codes "<p><a class=\"button\" href=\"/desk/requests/3\">Back to request 3</a></p>\n"
 unfolding digits filled_from to_request
 way_back_to_a_request = refl
+
+form_of_a_caller_who_may_take_it :
+    page_bytes (owner_form 3 (codes "ann") None)
+    ≡ codes "<form method=\"post\" action=\"/desk/requests/3/take\"><input type=\"hidden\" name=\"me\" "
+    ++ codes "value=\"ann\"><button>Take it</button></form>\n"
+unfolding digits filled_from owner_form
+form_of_a_caller_who_may_take_it = refl
+
+form_of_another_person :
+    page_bytes (said_of (OtherPerson (codes "bob")) (codes "ann"))
+    ≡ codes "<h1>This form was another person" ++ quote ++ codes "s</h1>\n<p class=\"alert\">"
+    ++ codes "You are signed in as ann now. This form was bob" ++ quote
+    ++ codes "s: nothing was sent.</p>\n"
+unfolding filled_from other_heading other_note
+form_of_another_person = refl
 
 nothing_is_filled : is_filled {X = ℕ} [] ≡ false
 nothing_is_filled = refl
@@ -362,14 +379,14 @@ no_links =
 
 -- the button takes away the link of the kind that stands above it
 member_of_one_request :
-    page_bytes (members true 3 (record no_links { member_of = 12 ∷ [] }))
-    ≡ codes "<div><dt>Member of</dt><dd><a href=\"/desk/requests/12\">12</a> <form method=\"post\" action=\"/desk/requests/3/unlink\"><input type=\"hidden\" name=\"kind\" value=\"MemberOf\"><input type=\"hidden\" name=\"other\" value=\"12\"><button><span aria-hidden=\"true\">"
+    page_bytes (members true 3 (codes "bob") (record no_links { member_of = 12 ∷ [] }))
+    ≡ codes "<div><dt>Member of</dt><dd><a href=\"/desk/requests/12\">12</a> <form method=\"post\" action=\"/desk/requests/3/unlink\"><input type=\"hidden\" name=\"me\" value=\"bob\"><input type=\"hidden\" name=\"kind\" value=\"MemberOf\"><input type=\"hidden\" name=\"other\" value=\"12\"><button><span aria-hidden=\"true\">"
     ++ (195 ∷ (151 ∷ codes "</span><span class=\"off\">Unlink 12</span></button></form> </dd></div>\n"))
 unfolding digits filled_from link_row others
 member_of_one_request = refl
 
 two_members_without_buttons :
-    page_bytes (members false 3 (record no_links { has_member = 4 ∷ 12 ∷ [] }))
+    page_bytes (members false 3 (codes "bob") (record no_links { has_member = 4 ∷ 12 ∷ [] }))
     ≡ codes "<div><dt>Has members</dt><dd><a href=\"/desk/requests/4\">4</a> <a href=\"/desk/requests/12\">12</a> </dd></div>\n"
 unfolding digits filled_from link_row others
 two_members_without_buttons = refl
@@ -401,28 +418,22 @@ form_with_all_that_was_typed :
 unfolding search_form
 form_with_all_that_was_typed = refl
 
-what_nobody_owns_is_taken :
-    page_bytes (owner_form 3 (codes "bob") None)
-    ≡ codes "<form method=\"post\" action=\"/desk/requests/3/take\"><button>Take it</button></form>\n"
-unfolding digits filled_from owner_form
-what_nobody_owns_is_taken = refl
-
 ones_own_is_untaken :
     page_bytes (owner_form 3 (codes "bob") (Some (codes "bob")))
-    ≡ codes "<form method=\"post\" action=\"/desk/requests/3/untake\"><button>Untake it</button></form>\n"
+    ≡ codes "<form method=\"post\" action=\"/desk/requests/3/untake\"><input type=\"hidden\" name=\"me\" value=\"bob\"><button>Untake it</button></form>\n"
 unfolding digits filled_from owner_form
 ones_own_is_untaken = refl
 
 another_persons_is_stolen :
     page_bytes (owner_form 3 (codes "bob") (Some (codes "eve")))
-    ≡ codes "<form method=\"post\" action=\"/desk/requests/3/steal\"><button>Steal it from eve</button></form>\n"
+    ≡ codes "<form method=\"post\" action=\"/desk/requests/3/steal\"><input type=\"hidden\" name=\"me\" value=\"bob\"><button>Steal it from eve</button></form>\n"
 unfolding digits filled_from owner_form
 another_persons_is_stolen = refl
 
 -- a text that was typed stands there once more, and the status is ticked
 reply_that_was_typed :
-    page_bytes (typed (reply 3 (codes "<b>") (Some (codes "resolved")) true))
-    ≡ codes "<div class=\"write\">\n<form method=\"post\" action=\"/desk/requests/3/reply\">\n<label for=\"text\">Reply, to all who may see the request</label>\n<textarea id=\"text\" name=\"text\" rows=\"5\" dir=\"auto\" required>\n&lt;b&gt;</textarea>\n<label class=\"line\"><input type=\"checkbox\" name=\"status\" checked value=\"resolved\"> and make it resolved</label>\n<button>Reply</button>\n</form>\n</div>\n"
+    page_bytes (typed (reply 3 (codes "bob") (codes "<b>") (Some (codes "resolved")) true))
+    ≡ codes "<div class=\"write\">\n<form method=\"post\" action=\"/desk/requests/3/reply\">\n<input type=\"hidden\" name=\"me\" value=\"bob\">\n<label for=\"text\">Reply, to all who may see the request</label>\n<textarea id=\"text\" name=\"text\" rows=\"5\" dir=\"auto\" required>\n&lt;b&gt;</textarea>\n<label class=\"line\"><input type=\"checkbox\" name=\"status\" checked value=\"resolved\"> and make it resolved</label>\n<button>Reply</button>\n</form>\n</div>\n"
 unfolding digits filled_from move_too reply
 reply_that_was_typed = refl
 
@@ -638,20 +649,20 @@ dossier =
 acts_of_its_requestor :
     (settings : Settings) → people_of settings ≡ people
     → request_acts 3 (codes "ann") settings dossier
-    ≡ writing 3 None true false ++ change (codes "ann") settings dossier
+    ≡ writing 3 (codes "ann") None true false ++ change (codes "ann") settings dossier
 unfolding comment_on_ticket holds is_member leads_within reply_to_ticket super_user
 acts_of_its_requestor settings e = rw e refl
 
 shown_with_buttons :
     (settings : Settings) → people_of settings ≡ people
     → request_shown 3 (codes "eve") 10 settings dossier
-    ≡ request_top row_of_help ++ (facts true 3 10 settings dossier ++ history [])
+    ≡ request_top row_of_help ++ (facts true 3 (codes "eve") 10 settings dossier ++ history [])
 unfolding holds is_member leads_within modify_ticket super_user
 shown_with_buttons settings e = rw e refl
 
 shown_without_buttons :
     (settings : Settings) → people_of settings ≡ people
     → request_shown 3 (codes "ann") 10 settings dossier
-    ≡ request_top row_of_help ++ (facts false 3 10 settings dossier ++ history [])
+    ≡ request_top row_of_help ++ (facts false 3 (codes "ann") 10 settings dossier ++ history [])
 unfolding holds is_member leads_within modify_ticket super_user
 shown_without_buttons settings e = rw e refl

@@ -16,4 +16,5 @@ pub mod Persons
 pub mod Refusals
 pub mod Requests
 pub mod Tables
+pub mod Unsent
 pub mod Writes

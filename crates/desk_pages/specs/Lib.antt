@@ -26,5 +26,6 @@ pub mod Rows
 pub mod Search
 pub mod SignIn
 pub mod Sought
+pub mod Unsent
 pub mod Workload
 pub mod Write

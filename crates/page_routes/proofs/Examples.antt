@@ -16,11 +16,13 @@ use Rattle.session_core.specs.Sessions as sessions
 use Rattle.session_core.specs.declared.session.Lasts.TheVariants.{Day, Month}
 use Rattle.page_routes.specs.Faults.{name_of, number_of, status_of}
 use Rattle.page_routes.specs.FormArguments.{filled, names_in, needed, others}
+use Rattle.page_routes.specs.Fronts.{behind}
+use Rattle.page_routes.specs.HeadBox.{box_page, leads, unmarked, words_query}
 use Rattle.page_routes.specs.Paths.{path_of, reply_path}
-use Rattle.page_routes.specs.Places.{act_named, behind, fixed, is_page_path, method_named, path_in}
+use Rattle.page_routes.specs.Places.{act_named, fixed, is_page_path, method_named, path_in}
 use Rattle.page_routes.specs.Places.{queue_page, takes_post}
 use Rattle.page_routes.specs.Visits.{Lines, acted, asked_at, asked_by, caller_by, caller_of, form_of}
-use Rattle.page_routes.specs.Visits.{going, got, is_search, lasts_of, looker, next_in, page_or_home}
+use Rattle.page_routes.specs.Visits.{got, is_search, lasts_of, looker, next_in, page_or_home}
 use Rattle.page_routes.specs.Visits.{posted_from, sent_in, sent_on, signed_at, signed_by}
 use Rattle.page_routes.specs.declared.fault.PageFault.TheVariants.{NoRoute, BadMethod, OtherSite}
 use Rattle.page_routes.specs.declared.fault.PageFault.TheVariants.{BadBody}
@@ -160,11 +162,11 @@ path_of_the_end_of_a_history = refl
 
 -- FormArguments.antt
 
-form_of_a_link : needed forms.Link ≡ codes "kind" ∷ codes "other" ∷ []
+form_of_a_link : needed forms.Link ≡ codes "me" ∷ codes "kind" ∷ codes "other" ∷ []
 form_of_a_link = refl
 
-form_of_taking_has_no_fields : needed forms.Take ≡ []
-form_of_taking_has_no_fields = refl
+form_of_taking_has_one_field : needed forms.Take ≡ codes "me" ∷ []
+form_of_taking_has_one_field = refl
 
 status_beside_a_reply : others forms.Reply ≡ codes "status" ∷ []
 status_beside_a_reply = refl
@@ -213,14 +215,26 @@ search_is_one = refl
 queue_is_no_search : is_search (pages.Queue (codes "it")) ≡ false
 queue_is_no_search = refl
 
-request_by_its_number : going (field (codes "number") (codes "7") ∷ []) ≡ Ok (visits.Go 7)
+request_by_its_number : leads (Some 7) (codes "q=7") ≡ pages.Request 7
 request_by_its_number = refl
 
-number_with_a_letter : going (field (codes "number") (codes "7a") ∷ []) ≡ Err BadBody
-number_with_a_letter = refl
+number_sign_is_left_out : unmarked (codes "#7") ≡ codes "7"
+number_sign_is_left_out = refl
 
-field_too_many : going (field (codes "number") (codes "7") ∷ field (codes "a") [] ∷ []) ≡ Err BadBody
-field_too_many = refl
+number_without_a_sign_stays : unmarked (codes "7#") ≡ codes "7#"
+number_without_a_sign_stays = refl
+
+words_as_they_were_coded : words_query (Some (codes "paper+j%C3%A4m")) ≡ codes "words=paper+j%C3%A4m"
+words_as_they_were_coded = refl
+
+what_was_typed_stands_behind : behind (codes "q=") (codes "q=jam") ≡ Some (codes "jam")
+what_was_typed_stands_behind = refl
+
+field_that_the_box_has_not : behind (codes "q=") (codes "p=jam") ≡ None
+field_that_the_box_has_not = refl
+
+nothing_typed : box_page [] ≡ pages.Find [] First
+nothing_typed = refl
 
 reply_with_a_status :
     sent_on forms.Reply 7 (field (codes "text") (codes "Hi") ∷ field (codes "status") (codes "open") ∷ [])
@@ -241,21 +255,40 @@ new_request_with_a_status = refl
 other_acts_send_a_change : sent_on forms.Take 7 [] ≡ sends.Change 7
 other_acts_send_a_change = refl
 
-no_command_is_a_bad_body : acted (codes "ann") (sends.Change 7) None ≡ Err BadBody
+no_command_is_a_bad_body : acted (codes "ann") (codes "ann") (sends.Change 7) None ≡ Err BadBody
 no_command_is_a_bad_body = refl
 
 command_of_a_caller :
-    acted (codes "ann") (sends.Change 7) (Some (command.Take 7))
+    acted (codes "ann") (codes "ann") (sends.Change 7) (Some (command.Take 7))
     ≡ Ok (visits.Act (codes "ann") (command.Take 7) (sends.Change 7))
 command_of_a_caller = refl
 
+command_of_another_persons_page :
+    acted (codes "bob") (codes "ann") (sends.Change 7) (Some (command.Take 7))
+    ≡ Ok (visits.OtherPerson (codes "ann") (codes "bob") (sends.Change 7))
+command_of_another_persons_page = refl
+
 taking_by_a_post :
-    asked_at (codes "ann") (places.Act forms.Take 7) []
+    asked_at (codes "ann") (places.Act forms.Take 7) (field (codes "me") (codes "ann") ∷ [])
     ≡ Ok (visits.Act (codes "ann") (command.Take 7) (sends.Change 7))
 taking_by_a_post = refl
 
+taking_of_another_persons_page :
+    asked_at (codes "ann") (places.Act forms.Take 7) (field (codes "me") (codes "bob") ∷ [])
+    ≡ Ok (visits.OtherPerson (codes "ann") (codes "bob") (sends.Change 7))
+taking_of_another_persons_page = refl
+
+taking_of_nobodys_page : asked_at (codes "ann") (places.Act forms.Take 7) [] ≡ Err BadBody
+taking_of_nobodys_page = refl
+
+taking_of_a_page_told_twice :
+    asked_at (codes "ann") (places.Act forms.Take 7)
+    (field (codes "me") (codes "ann") ∷ field (codes "me") (codes "ann") ∷ []) ≡ Err BadBody
+taking_of_a_page_told_twice = refl
+
 taking_with_a_field :
-    asked_at (codes "ann") (places.Act forms.Take 7) (field (codes "a") [] ∷ []) ≡ Err BadBody
+    asked_at (codes "ann") (places.Act forms.Take 7)
+    (field (codes "me") (codes "ann") ∷ field (codes "a") [] ∷ []) ≡ Err BadBody
 taking_with_a_field = refl
 
 post_to_a_page_without_one : asked_at (codes "ann") (places.Page pages.Home) [] ≡ Err (BadMethod false)

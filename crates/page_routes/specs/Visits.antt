@@ -1,7 +1,7 @@
 -- What a message asks of the pages.
 use Rattle.std.specs.Prelude.{ℕ, Bool, true, false, if◌then◌else◌, List, [], ◌∷◌, codes}
 use Rattle.std.specs.Prelude.{Option, Some, None, Result, Ok, Err, unwrap_or}
-use Rattle.std.specs.Option.{option_and_then}
+use Rattle.std.specs.Str.{bytes_eq}
 use Rattle.hours_core.specs.Moment.{is_due_moment}
 use Rattle.desk_model.specs.declared.command.Command.{Command}
 use Rattle.settings_core.specs.declared.settings.Settings.{Settings}
@@ -15,7 +15,6 @@ use Rattle.browser_core.specs.Site.{is_own_post}
 use Rattle.browser_core.specs.Texts.{text_in}
 use Rattle.browser_core.specs.Trim.{trimmed}
 use Rattle.browser_core.specs.declared.form.Field.{Field}
-use Rattle.desk_forms.specs.Number.{number_of}
 use Rattle.desk_forms.specs.Paths.{InQueue, Nothing, OnRequest}
 use Rattle.desk_forms.specs.declared.paths.Method.{Method}
 use Rattle.desk_forms.specs.declared.paths.Method.TheVariants.{Get, Post}
@@ -74,11 +73,12 @@ abbrev pub looked : Page → Option (List ℕ) → PageRequest
 looked page None = visits.Unknown page true
 looked page (Some caller) = visits.Look caller page
 
--- a place that only takes POST leads to where its form stands
+-- the box in the head leads on, and a place that only takes POST to where its form stands
 abbrev pub got : Settings → ℕ → Lines → Place → PageRequest
 got settings at lines places.Style = visits.Style
 got settings at lines places.SignIn = visits.SignIn
 got settings at lines (places.Page page) = looked page (looker settings at lines page)
+got settings at lines (places.Go page) = visits.Leads page
 got settings at lines (places.Act act id) = visits.Leads (pages.Request id)
 got settings at lines _ = visits.Leads pages.Home
 
@@ -126,15 +126,6 @@ signing settings at (Some fields) =
 
 -- ---- commands
 
-abbrev pub went : Option ℕ → Answer
-went None = Err BadBody
-went (Some id) = Ok (visits.Go id)
-
-abbrev pub going : List Field → Answer
-going fields =
-    if has_fields (codes "number" ∷ []) [] fields
-    then went (option_and_then number_of (value_of (codes "number") fields)) else Err BadBody
-
 -- the value of a field, and nothing where there is none
 abbrev pub typed : List ℕ → List Field → List ℕ
 typed name fields = unwrap_or (value_of name fields) []
@@ -150,19 +141,29 @@ sent_in queue fields =
     sends.New queue (typed (codes "subject") fields) (typed (codes "requestors") fields)
     (typed (codes "text") fields) (filled (value_of (codes "status") fields))
 
-abbrev pub acted : List ℕ → SubmittedForm → Option Command → Answer
-acted caller sent None = Err BadBody
-acted caller sent (Some command) = Ok (visits.Act caller command sent)
+-- the person on whose page the form stood
+abbrev pub person_in : List Field → List ℕ
+person_in fields = typed (codes "me") fields
+
+-- a form of another person's page is no command
+abbrev pub sent_from : List ℕ → List ℕ → SubmittedForm → Command → PageRequest
+sent_from person caller sent command =
+    if bytes_eq person caller then visits.Act caller command sent
+    else visits.OtherPerson caller person sent
+
+abbrev pub acted : List ℕ → List ℕ → SubmittedForm → Option Command → Answer
+acted person caller sent None = Err BadBody
+acted person caller sent (Some command) = Ok (sent_from person caller sent command)
 
 -- what a caller's fields ask at a place that takes a command
 abbrev pub asked_at : List ℕ → Place → List Field → Answer
-asked_at caller places.Go fields = going fields
 asked_at caller places.Queues fields =
-    acted caller sends.Queue (command_in forms.OpenQueue Nothing fields)
+    acted (person_in fields) caller sends.Queue (command_in forms.OpenQueue Nothing fields)
 asked_at caller (places.Act act id) fields =
-    acted caller (sent_on act id fields) (command_in act (OnRequest id) fields)
+    acted (person_in fields) caller (sent_on act id fields) (command_in act (OnRequest id) fields)
 asked_at caller (places.Page (pages.New queue)) fields =
-    acted caller (sent_in queue fields) (command_in forms.Create (InQueue queue) fields)
+    acted (person_in fields) caller (sent_in queue fields)
+    (command_in forms.Create (InQueue queue) fields)
 asked_at caller _ fields = Err (BadMethod false)
 
 -- where the form of such a place stands

@@ -6,11 +6,11 @@ ghost use Rattle.page_routes.specs.FormArguments.{filled};
 ghost use Rattle.page_routes.specs.Visits as visits;
 
 use crate::fault::PageFault;
-use crate::filled::{command_in, filled_value, number_at, typed};
+use crate::filled::{command_in, filled_value, typed};
 use crate::page::Page;
 use crate::place::Place;
 use crate::visit::{PageRequest, SubmittedForm};
-use browser_core::{Field, fields_of, has_fields};
+use browser_core::{Field, fields_of};
 use desk_forms::paths::PathParameter;
 use desk_forms::table::CommandForm;
 use desk_model::Command;
@@ -63,7 +63,6 @@ fn asked_at(
         → visits.asked_at caller place fields.now ≡ Err fault) }
 {
     match place {
-        Place::Go => going(fields),
         Place::Queues => {
             let command = command_in(
                 alloc,
@@ -71,11 +70,17 @@ fn asked_at(
                 PathParameter::Nothing,
                 fields,
             )?;
-            acted(caller, SubmittedForm::Queue, command)
+            acted(alloc, fields, caller, SubmittedForm::Queue, command)
         }
         Place::Act(act, id) => {
             let command = command_in(alloc, act, PathParameter::Request(id), fields)?;
-            acted(caller, sent_on(alloc, act, id, fields)?, command)
+            acted(
+                alloc,
+                fields,
+                caller,
+                sent_on(alloc, act, id, fields)?,
+                command,
+            )
         }
         Place::Page(Page::New(queue)) => {
             let command = command_in(
@@ -84,40 +89,59 @@ fn asked_at(
                 PathParameter::Queue(queue.as_str()),
                 fields,
             )?;
-            acted(caller, sent_in(alloc, queue, fields)?, command)
+            acted(
+                alloc,
+                fields,
+                caller,
+                sent_in(alloc, queue, fields)?,
+                command,
+            )
         }
         _ => Err(PageFault::BadMethod { posts: false }),
     }
 }
 
-/// To go to the number of a field.
-fn going(fields: &[Field]) -> Result<PageRequest, PageFault>
-    ensures { result ≡ visits.going fields.now }
-{
-    if !has_fields(fields, &["number"], &[]) {
-        return Err(PageFault::BadBody);
-    }
-    match number_at(fields, "number") {
-        Some(id) => Ok(PageRequest::Go { id }),
-        None => Err(PageFault::BadBody),
-    }
-}
-
 fn acted(
+    alloc: Global,
+    fields: &[Field],
     caller: Text,
     sent: SubmittedForm,
     command: Option<Command>,
 ) -> Result<PageRequest, PageFault>
-    ensures { result ≡ visits.acted caller sent command }
+    ensures ok { IfOk result (λ visit.
+        visits.acted (visits.person_in fields.now) caller sent command ≡ Ok visit) }
+    ensures err { IfErr result (λ fault. fault ≢ PageFault.NoMemory
+        → visits.acted (visits.person_in fields.now) caller sent command ≡ Err fault) }
 {
     match command {
-        Some(command) => Ok(PageRequest::Act {
+        Some(command) => Ok(sent_from(alloc, typed(fields, "me"), caller, sent, command)?),
+        None => Err(PageFault::BadBody),
+    }
+}
+
+/// The command of a form, if it stood on the caller's own page.
+fn sent_from(
+    alloc: Global,
+    person: &str,
+    caller: Text,
+    sent: SubmittedForm,
+    command: Command,
+) -> Result<PageRequest, AllocError>
+    ensures { IfOk result (λ visit. visit ≡ visits.sent_from person.now caller sent command) }
+{
+    if person == caller.as_str() {
+        return Ok(PageRequest::Act {
             caller,
             command,
             sent,
-        }),
-        None => Err(PageFault::BadBody),
+        });
     }
+    let person = Text::new(alloc, person)?;
+    Ok(PageRequest::OtherPerson {
+        caller,
+        person,
+        sent,
+    })
 }
 
 /// What was sent with a form on a request.

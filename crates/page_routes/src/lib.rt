@@ -9,6 +9,8 @@
 mod ask;
 mod fault;
 mod filled;
+mod fronts;
+mod head_box;
 mod lines;
 mod page;
 mod place;

@@ -73,7 +73,8 @@ pub enum PageRequest {
     NoMoment,
     /// POST of `/sign-out`: 303 to `/sign-in`, and the cookie is cleared.
     SignOut,
-    /// GET of a place that only takes POST: 303 to where its form stands.
+    /// GET of a place that only takes POST: 303 to where its form stands. Of `/desk/go`: 303 to what
+    /// was typed into the box in the head.
     Leads(Page),
     /// Nobody's cookie, at any other place, or a search that another site opens: the sign-in page,
     /// which leads to this one. It is answered at that very page to a GET, and elsewhere to a POST.
@@ -86,9 +87,12 @@ pub enum PageRequest {
         caller: Text,
         page: Page,
     },
-    /// POST of `/desk/go`: 303 to this request.
-    Go {
-        id: u32,
+    /// POST of any other place by a form of another person's page: nothing is done, and the page that
+    /// says so has what was typed.
+    OtherPerson {
+        caller: Text,
+        person: Text,
+        sent: SubmittedForm,
     },
     /// POST of any other place: a command.
     Act {
@@ -170,6 +174,7 @@ fn got(
             let caller = looker(alloc, settings, at, request, &page)?;
             Ok(looked(page, caller))
         }
+        Place::Go(page) => Ok(PageRequest::Leads(page)),
         Place::Act(_, id) => Ok(PageRequest::Leads(Page::Request(id))),
         _ => Ok(PageRequest::Leads(Page::Home)),
     }

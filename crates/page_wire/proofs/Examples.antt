@@ -5,6 +5,7 @@ use Rattle.desk_model.specs.declared.answer.Answer.TheVariants as answer
 use Rattle.desk_model.specs.declared.command.Command.TheVariants as command
 use Rattle.desk_model.specs.declared.refusal.Refusal.TheVariants as refusal
 use Rattle.desk_pages.specs.RefusalPage.{filed_page, replied_page}
+use Rattle.desk_pages.specs.declared.unsent.Unsent.TheVariants.{OtherPerson, Refused}
 use Rattle.message_core.specs.declared.message.Message.{Message}
 use Rattle.page_core.specs.Page.{page_bytes}
 use Rattle.page_routes.specs.declared.visit.SubmittedForm.{SubmittedForm}
@@ -12,7 +13,8 @@ use Rattle.page_routes.specs.declared.visit.SubmittedForm.TheVariants as sent
 use Rattle.page_wire.specs.Health.{asks_health}
 use Rattle.page_wire.specs.Next.{follow_up_command, next_text}
 use Rattle.page_wire.specs.Redirect.{led_to}
-use Rattle.page_wire.specs.Replies.{done_reply, half_form, refused_form, refused_reply, with_page}
+use Rattle.page_wire.specs.Replies.{done_reply, half_form, other_person_reply, refused_reply}
+use Rattle.page_wire.specs.Replies.{unsent_form, with_page}
 
 -- ---- the second command
 
@@ -60,8 +62,13 @@ to_the_request_that_was_changed = refl
 
 refused_with_its_code :
     refused_reply (codes "ann") 1000 (sent.Change 7) refusal.NoChange
-    ≡ with_page 409 (page_bytes (refused_form (codes "ann") 1000 (sent.Change 7) refusal.NoChange))
+    ≡ with_page 409 (page_bytes (unsent_form (codes "ann") 1000 (sent.Change 7) (Refused refusal.NoChange)))
 refused_with_its_code = refl
+
+form_of_another_persons_page :
+    other_person_reply (codes "ann") 1000 (codes "bob") (sent.Change 7)
+    ≡ with_page 409 (page_bytes (unsent_form (codes "ann") 1000 (sent.Change 7) (OtherPerson (codes "bob"))))
+form_of_another_persons_page = refl
 
 -- the text that wasn't sent stands there
 filed_without_its_text :

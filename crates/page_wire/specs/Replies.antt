@@ -26,12 +26,14 @@ use Rattle.page_core.specs.Page.{Part, page_bytes}
 use Rattle.desk_pages.specs.Find.{find_fault_page, find_page}
 use Rattle.desk_pages.specs.Home.{home_page}
 use Rattle.desk_pages.specs.New.{new_page}
-use Rattle.desk_pages.specs.RefusalPage.{ask_refusal_page, comment_refusal_page, filed_page}
-use Rattle.desk_pages.specs.RefusalPage.{refusal_page, replied_page, reply_refusal_page}
-use Rattle.desk_pages.specs.RefusalPage.{request_refusal_page}
+use Rattle.desk_pages.specs.RefusalPage.{filed_page, refusal_page, replied_page, unsent_ask_page}
+use Rattle.desk_pages.specs.RefusalPage.{unsent_change_page, unsent_comment_page, unsent_page}
+use Rattle.desk_pages.specs.RefusalPage.{unsent_reply_page}
 use Rattle.desk_pages.specs.Request.{request_page}
 use Rattle.desk_pages.specs.SignIn.{sign_in_page}
 use Rattle.desk_pages.specs.Workload.{workload_page}
+use Rattle.desk_pages.specs.declared.unsent.Unsent.{Unsent}
+use Rattle.desk_pages.specs.declared.unsent.Unsent.TheVariants.{Refused, OtherPerson}
 use Rattle.page_reply.specs.PageReply.{bytes_of}
 use Rattle.page_reply.specs.declared.reply.CookieChange.{CookieChange}
 use Rattle.page_reply.specs.declared.reply.CookieChange.TheVariants.{Keep, Session, Stay}
@@ -167,20 +169,24 @@ abbrev pub done_reply : SubmittedForm → Answer → List ℕ
 done_reply sent (answer.Created id) = led_to id
 done_reply sent other = led_by sent
 
--- refused: its page, with what was typed and chosen
-abbrev pub refused_form : List ℕ → ℕ → SubmittedForm → Refusal → List Part
-refused_form caller at sent.Queue refusal = refusal_page refusal caller at
-refused_form caller at (sent.New queue subject requestors text status) refusal =
-    ask_refusal_page refusal caller at queue subject text requestors status
-refused_form caller at (sent.Reply id text status) refusal =
-    reply_refusal_page refusal caller at id text status
-refused_form caller at (sent.Comment id text) refusal =
-    comment_refusal_page refusal caller at id text
-refused_form caller at (sent.Change id) refusal = request_refusal_page refusal caller at id
+-- not sent: its page, with what was typed and chosen
+abbrev pub unsent_form : List ℕ → ℕ → SubmittedForm → Unsent → List Part
+unsent_form caller at sent.Queue why = unsent_page why caller at
+unsent_form caller at (sent.New queue subject requestors text status) why =
+    unsent_ask_page why caller at queue subject text requestors status
+unsent_form caller at (sent.Reply id text status) why =
+    unsent_reply_page why caller at id text status
+unsent_form caller at (sent.Comment id text) why = unsent_comment_page why caller at id text
+unsent_form caller at (sent.Change id) why = unsent_change_page why caller at id
 
 abbrev pub refused_reply : List ℕ → ℕ → SubmittedForm → Refusal → List ℕ
 refused_reply caller at sent refusal =
-    with_page (code_of_refusal refusal) (page_bytes (refused_form caller at sent refusal))
+    with_page (code_of_refusal refusal) (page_bytes (unsent_form caller at sent (Refused refusal)))
+
+-- it stood on this other person's page
+abbrev pub other_person_reply : List ℕ → ℕ → List ℕ → SubmittedForm → List ℕ
+other_person_reply caller at person sent =
+    with_page 409 (page_bytes (unsent_form caller at sent (OtherPerson person)))
 
 -- its first command done and its second refused: what was done and what wasn't, with a text that
 -- wasn't sent; no other form has a second command

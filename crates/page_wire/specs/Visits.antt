@@ -6,7 +6,7 @@ use Rattle.page_reply.specs.PageReply.{sheet_bytes}
 use Rattle.page_reply.specs.declared.reply.CookieChange.TheVariants.{Keep, Forget}
 use Rattle.page_routes.specs.Paths.{path_of}
 use Rattle.page_routes.specs.declared.page.Page.{Page}
-use Rattle.page_routes.specs.declared.page.Page.TheVariants.{Home, Request}
+use Rattle.page_routes.specs.declared.page.Page.TheVariants.{Home}
 use Rattle.page_routes.specs.declared.visit.PageRequest.{PageRequest}
 use Rattle.page_routes.specs.declared.visit.PageRequest.TheVariants as visit
 use Rattle.page_wire.specs.Faults.{clock_reply}
@@ -36,6 +36,6 @@ IsFixed visit.NoMoment bytes = bytes ≡ clock_reply
 IsFixed visit.SignOut bytes = bytes ≡ signed_out
 IsFixed (visit.Leads next) bytes = bytes ≡ leads_on next
 IsFixed (visit.Unknown next to_get) bytes = bytes ≡ sign_in 403 next false to_get
-IsFixed (visit.Go id) bytes = bytes ≡ leads_on (Request id)
 IsFixed (visit.Look caller page) bytes = bytes ≡ clock_reply
+IsFixed (visit.OtherPerson caller person sent) bytes = bytes ≡ clock_reply
 IsFixed (visit.Act caller command sent) bytes = bytes ≡ clock_reply

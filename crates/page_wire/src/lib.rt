@@ -12,6 +12,7 @@ mod faults;
 mod follow_up;
 mod head_only;
 mod health;
+pub mod laws;
 mod next;
 mod pages;
 mod redirect;
@@ -19,6 +20,7 @@ mod render;
 mod replies;
 mod serve;
 mod submit;
+mod unsent;
 mod visits;
 
 pub use serve::{answer_sent, read_sent};

@@ -11,6 +11,7 @@ use crate::faults::clock_reply;
 use crate::render::render_page;
 use crate::replies::{cookie_for, leads_to, sign_in};
 use crate::submit::submit_form;
+use crate::unsent::other_person_reply;
 use desk_core::Command;
 use desk_style::style_sheet;
 use hours_core::Minute;
@@ -44,6 +45,17 @@ pub(crate) fn make_visit<S: Backend>(
             let made = render_page(alloc, caller.as_str(), page, moment, desk);
             put(made, room)
         }
+        (
+            PageRequest::OtherPerson {
+                caller,
+                person,
+                sent,
+            },
+            Some(moment),
+        ) => put(
+            other_person_reply(alloc, caller.as_str(), moment, person, sent),
+            room,
+        ),
         (
             PageRequest::Act {
                 caller,
@@ -83,10 +95,10 @@ fn fixed(alloc: Global, visit: &PageRequest) -> Result<Vec<u8>, AllocError>
         PageRequest::SignOut => signed_out(alloc),
         PageRequest::Leads(next) => leads_on(alloc, next),
         PageRequest::Unknown { next, to_get } => sign_in(alloc, 403, next, false, *to_get),
-        PageRequest::Go { id } => leads_on(alloc, &Page::Request(*id)),
-        PageRequest::NoMoment | PageRequest::Look { .. } | PageRequest::Act { .. } => clock_reply(
-            alloc,
-        ),
+        PageRequest::NoMoment
+        | PageRequest::Look { .. }
+        | PageRequest::OtherPerson { .. }
+        | PageRequest::Act { .. } => clock_reply(alloc),
     }
 }
 
