@@ -39,6 +39,11 @@ def of_another(caller, person):
     return 409, f"You are signed in as {caller} now. This form was {person}’s: nothing was sent."
 
 
+def of_who_signed_in(caller):
+    """What is said of a form that nobody sent, to who signed in then. Nothing is done."""
+    return f"You are signed in as {caller}, but nothing was sent yet. Look at what you typed, and press the button."
+
+
 # ---- lists
 
 def time_text(moment):

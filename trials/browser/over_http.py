@@ -5,7 +5,7 @@ import re
 import time
 
 from client import cookie_of
-from pages import of_another
+from pages import of_another, of_who_signed_in
 from sessions import DAY, MONTH
 
 from browser import markup
@@ -315,6 +315,34 @@ def other_persons():
         expect("the queue after them", visitor.told("/queues/support/requests").body, count)
 
 
+def signed_out():
+    """A text that is sent after its session has ended stands in its form again after signing in, and wasn't sent."""
+    with serving("ended") as visitor:
+        at = f"/desk/requests/{TALK}"
+        before = visitor.told(f"/requests/{TALK}/history").body
+        text = "\n A <b>text</b> & \"more\"\n\n"
+        for place, fields in ((f"{at}/reply", {"text": text, "status": "stalled"}), (f"{at}/comment", {"text": text}),
+                              ("/desk/queues/support/new", {"subject": "<i>A badge", "requestors": "ann", "text": text,
+                                                            "status": "open"})):
+            reply = visitor.post(place, {"me": "bob", **fields}, None)
+            page(f"sent by nobody to {place}", reply, 403)
+            kept = markup.hidden(reply.text, "/sign-in")
+            expect(f"{place}: what comes along", {it: kept[it] for it in kept if kept[it]}, {"next": place, **fields})
+            again = visitor.post("/sign-in", kept | {"token": "none"}, None)
+            page(f"{place}: an unknown token", again, 403)
+            expect(f"{place}: what comes along then", markup.hidden(again.text, "/sign-in"), kept)
+            reply = visitor.post("/sign-in", kept | {"token": TOKENS["bob"]}, None)
+            page(f"{place}: signed in", reply, 200)
+            holds(f"{place}: no cookie", (reply.head("set-cookie") or "").startswith("desk=bob."))
+            holds(f"{place}: it isn't said", any(of_who_signed_in("bob") in it for it in markup.texts(reply.text)))
+            expect(f"{place}: whose form", markup.hidden(reply.text, place).get("me"), "bob")
+            lost = [it for it in fields.values() if not any(it in one for one in markup.texts(reply.text))]
+            expect(f"{place}: what was typed and isn't kept", lost, [])
+        reply = visitor.post(f"{at}/take", {"me": "bob"}, None)
+        expect("a press by nobody leads to", markup.hidden(reply.text, "/sign-in"), {"next": at})
+        expect("the history after them", visitor.told(f"/requests/{TALK}/history").body, before)
+
+
 def methods():
     """Methods that a place doesn't take, and places that only take a form."""
     with serving("methods") as visitor:
@@ -391,4 +419,4 @@ def cookies():
 
 
 PARTS = {"shown": shown, "apart": tell_apart, "refused": refused, "half": half_done, "same": same,
-         "posts": posts, "bodies": bodies, "other": other_persons, "methods": methods, "cookies": cookies}
+         "posts": posts, "bodies": bodies, "other": other_persons, "ended": signed_out, "methods": methods, "cookies": cookies}

@@ -1,6 +1,6 @@
 //! What is wrong first with settings and a file of tables.
 
-ghost use Rattle.std.specs.Prelude.{◌≡◌, IfOk, false, string_bytes};
+ghost use Rattle.std.specs.Prelude.{◌≡◌, ◌≢◌, [], IfOk, false, string_bytes};
 ghost use Rattle.check_core.specs.Files.{IsFinding, IsOfTables, IsWarnedOf};
 
 use crate::bad_rows::bad_row;
@@ -59,8 +59,16 @@ pub fn warnings_of(alloc: Global, text: &[u8]) -> Result<String, AllocError>
 {
     match Settings::read(alloc, text) {
         Ok(settings) => warnings(alloc, settings.tokens()),
-        Err(SettingsFault::NoMemory) => Err(AllocError),
-        Err(_) => Ok(String::new(alloc)),
+        Err(fault) => no_warning(alloc, fault),
+    }
+}
+
+fn no_warning(alloc: Global, fault: SettingsFault) -> Result<String, AllocError>
+    ensures { IfOk result (λ told. (fault ≢ SettingsFault.NoMemory) × (string_bytes told ≡ [])) }
+{
+    match fault {
+        SettingsFault::NoMemory => Err(AllocError),
+        _ => Ok(String::new(alloc)),
     }
 }
 

@@ -50,7 +50,7 @@ use Rattle.desk_pages.specs.Request.{request_acts, request_shown, request_top, w
 use Rattle.desk_pages.specs.Rights.{may_change_owner, may_comment, may_modify, may_reply}
 use Rattle.desk_pages.specs.Rows.{late_by, row, row_told, row_top, table}
 use Rattle.desk_pages.specs.Search.{chosen_in, search_form}
-use Rattle.desk_pages.specs.SignIn.{sign_in_page}
+use Rattle.desk_pages.specs.SignIn.{kept, sign_in_page}
 use Rattle.desk_pages.specs.Sought.{heading_of, is_told, place_of, title_of, told}
 use Rattle.desk_pages.specs.Unsent.{other_heading, other_note, said_of}
 use Rattle.desk_pages.specs.Workload.{late_told, most}
@@ -59,7 +59,7 @@ use Rattle.desk_pages.specs.declared.frame.Place.TheVariants as at
 use Rattle.desk_pages.specs.declared.markup.home.TheConstants.{HOME_TOP}
 use Rattle.desk_pages.specs.declared.markup.rows.TheConstants.{TABLE_TOP}
 use Rattle.desk_pages.specs.declared.markup.search.TheConstants.{SEARCH}
-use Rattle.desk_pages.specs.declared.markup.sign_in.TheConstants.{SIGN_IN}
+use Rattle.desk_pages.specs.declared.markup.sign_in.TheConstants.{SIGN_IN, SIGN_IN_END}
 use Rattle.desk_pages.specs.declared.unsent.Unsent.TheVariants.{OtherPerson}
 
 choice_that_tries_to_be_markup :
@@ -102,6 +102,15 @@ form_of_another_person :
     ++ codes "s: nothing was sent.</p>\n"
 unfolding filled_from other_heading other_note
 form_of_another_person = refl
+
+text_that_comes_along :
+    page_bytes (kept [] (codes "ann") (codes "a\"b") [])
+    ≡ codes "<input type=\"hidden\" name=\"subject\" value=\"\">\n"
+    ++ codes "<input type=\"hidden\" name=\"requestors\" value=\"ann\">\n"
+    ++ codes "<input type=\"hidden\" name=\"text\" value=\"a&quot;b\">\n"
+    ++ codes "<input type=\"hidden\" name=\"status\" value=\"\">\n"
+unfolding filled_from
+text_that_comes_along = refl
 
 nothing_is_filled : is_filled {X = ℕ} [] ≡ false
 nothing_is_filled = refl
@@ -452,7 +461,9 @@ other_refusals_after_it = refl
 -- no page says more of a token than that there is none
 token_that_was_refused :
     sign_in_page (codes "/desk/overdue") true false
-    ≡ bare_top (codes "Sign in") ++ (filled SIGN_IN.now (codes "/desk/overdue" ∷ []) (true ∷ false ∷ []) ++ bare_bottom)
+    ≡ bare_top (codes "Sign in")
+    ++ (filled SIGN_IN.now (codes "/desk/overdue" ∷ []) (true ∷ false ∷ [])
+    ++ (filled SIGN_IN_END.now [] (false ∷ []) ++ bare_bottom))
 token_that_was_refused = refl
 
 -- ---- the first page

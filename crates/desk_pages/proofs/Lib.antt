@@ -10,11 +10,11 @@ pub mod Known
 pub mod Linked
 pub mod Listed
 pub mod Loads
+pub mod NotSent
 pub mod Notices
 pub mod Offers
 pub mod Persons
 pub mod Refusals
 pub mod Requests
 pub mod Tables
-pub mod Unsent
 pub mod Writes

@@ -11,8 +11,8 @@ use Rattle.desk_pages.specs.declared.frame.Place.TheVariants.{Elsewhere}
 use Rattle.desk_pages.specs.declared.markup.refused.TheConstants.{FILED_NOTE, REPLIED_NOTE}
 use Rattle.desk_pages.specs.declared.unsent.Unsent.TheVariants.{Refused}
 use Rattle.desk_pages.proofs.Frames.{same_bottom, same_top}
-use Rattle.desk_pages.proofs.Unsent.{same_crumb, same_notice, same_to_request, same_typed}
-use Rattle.desk_pages.proofs.Unsent.{unsent_same}
+use Rattle.desk_pages.proofs.NotSent.{same_crumb, same_notice, same_to_request, same_typed}
+use Rattle.desk_pages.proofs.NotSent.{unsent_same}
 use Rattle.desk_pages.proofs.Writes.{same_reply}
 
 -- what stands above each of them

@@ -31,7 +31,7 @@ ghost use Rattle.desk_pages.specs.RefusalPage.{
 ghost use Rattle.desk_pages.specs.Refused.{is_denied};
 ghost use Rattle.desk_pages.specs.Request.{request_page, request_told};
 ghost use Rattle.desk_pages.specs.Search.{chosen_in};
-ghost use Rattle.desk_pages.specs.SignIn.{sign_in_page};
+ghost use Rattle.desk_pages.specs.SignIn.{kept_page, sign_in_page};
 ghost use Rattle.desk_pages.specs.Unsent.{why_told};
 ghost use Rattle.desk_pages.specs.declared.unsent.Unsent.{Unsent};
 ghost use Rattle.desk_pages.specs.Workload.{late_told, workload_page};
@@ -74,11 +74,15 @@ pub fn home_page_law()
         (home_page other later owned sought others unowned cycles more) }
 {}
 
-/// The page on which one signs in tells by its markup whether a token was refused, and whether it
-/// stands at another place.
+/// The page on which one signs in tells by its markup whether a token was refused, whether it stands at
+/// another place, and whether a form comes along; and no more of what was typed into that.
 pub fn sign_in_page_law()
-    ensures { (next other : List ℕ) (refused elsewhere : Bool)
+    ensures plain { (next other : List ℕ) (refused elsewhere : Bool)
         → SameMarkup (sign_in_page next refused elsewhere) (sign_in_page other refused elsewhere) }
+    ensures kept { (next other subject line requestors persons text words status chosen : List ℕ)
+        (refused : Bool)
+        → SameMarkup (kept_page next subject requestors text status refused)
+        (kept_page other line persons words chosen refused) }
 {}
 
 /// The page of a fault has the same markup whatever is wrong.

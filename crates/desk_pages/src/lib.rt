@@ -56,6 +56,6 @@ pub use refusal::{
     unsent_reply_page,
 };
 pub use request::request_page;
-pub use sign_in::sign_in_page;
+pub use sign_in::{kept_page, sign_in_page};
 pub use unsent::Unsent;
 pub use workload::workload_page;

@@ -175,5 +175,5 @@ pub fn unsent_ask_page(
 fn is_found(why: &Unsent) -> bool
     ensures { result ≡ form.is_found why.now }
 {
-    !matches!(refusal, Refusal::NotFound)
+    !matches!(why, Unsent::Refused(Refusal::NotFound))
 }

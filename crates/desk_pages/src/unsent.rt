@@ -17,16 +17,19 @@ pub enum Unsent {
     Refused(Refusal),
     /// It stood on the page of this person, who isn't the caller.
     OtherPerson(Text),
+    /// Nobody was signed in; the caller signed in then.
+    SignedIn,
 }
 
 /// The heading of what is said of it.
-#[tactic(auto, unfolding(crate::specs::Unsent::other_heading))]
+#[tactic(auto, unfolding(crate::specs::Unsent::other_heading, crate::specs::Unsent::own_heading))]
 pub(crate) fn title_of(why: &Unsent) -> &'static str
     ensures { result.now ≡ form.title_of why.now }
 {
     match why {
         Unsent::Refused(refusal) => heading_of(refusal),
         Unsent::OtherPerson(_) => "This form was another person’s",
+        Unsent::SignedIn => "You are signed in",
     }
 }
 
@@ -38,6 +41,7 @@ pub(crate) fn put_why(out: &mut Vec<u8>, why: &Unsent, caller: &str) -> Result<(
     match why {
         Unsent::Refused(refusal) => put_refusal(out, refusal),
         Unsent::OtherPerson(person) => put_other(out, caller, person.as_str()),
+        Unsent::SignedIn => put_signed_in(out, caller),
     }
 }
 
@@ -53,6 +57,22 @@ fn put_other<'t>(out: &mut Vec<u8>, caller: &'t str, person: &'t str) -> Result<
         Value::Text(" now. This form was "),
         Value::Text(person),
         Value::Text("’s: nothing was sent."),
+    ];
+    fill(out, NOTE, &values, &[])
+}
+
+#[tactic(auto, unfolding(crate::specs::Unsent::own_heading, crate::specs::Unsent::own_note))]
+fn put_signed_in(out: &mut Vec<u8>, caller: &str) -> Result<(), AllocError>
+    ensures { OnOk result (out.new.items
+        ≡ out.old.items ++ page_bytes (form.own_note caller.now)) }
+{
+    let values = [
+        Value::Text("You are signed in"),
+        Value::Text("You are signed in as "),
+        Value::Text(caller),
+        Value::Text(", but nothing was sent yet. Look at what you typed, and press the button."),
+        Value::Text(""),
+        Value::Text(""),
     ];
     fill(out, NOTE, &values, &[])
 }

@@ -18,17 +18,18 @@ use Rattle.page_routes.specs.Faults.{name_of, number_of, status_of}
 use Rattle.page_routes.specs.FormArguments.{filled, names_in, needed, others}
 use Rattle.page_routes.specs.Fronts.{behind}
 use Rattle.page_routes.specs.HeadBox.{box_page, leads, unmarked, words_query}
-use Rattle.page_routes.specs.Paths.{path_of, reply_path}
+use Rattle.page_routes.specs.Paths.{form_path, path_of, reply_path}
 use Rattle.page_routes.specs.Places.{act_named, fixed, is_page_path, method_named, path_in}
 use Rattle.page_routes.specs.Places.{queue_page, takes_post}
 use Rattle.page_routes.specs.Visits.{Lines, acted, asked_at, asked_by, caller_by, caller_of, form_of}
-use Rattle.page_routes.specs.Visits.{got, is_search, lasts_of, looker, next_in, page_or_home}
-use Rattle.page_routes.specs.Visits.{posted_from, sent_in, sent_on, signed_at, signed_by}
+use Rattle.page_routes.specs.Visits.{got, is_search, lasts_of, looker, next_from, next_in}
+use Rattle.page_routes.specs.Visits.{page_or_home, posted_from, sent_in, sent_on, signed_at, signed_by}
 use Rattle.page_routes.specs.declared.fault.PageFault.TheVariants.{NoRoute, BadMethod, OtherSite}
 use Rattle.page_routes.specs.declared.fault.PageFault.TheVariants.{BadBody}
+use Rattle.page_routes.specs.declared.next.Next.TheVariants as nexts
 use Rattle.page_routes.specs.declared.page.Page.TheVariants as pages
 use Rattle.page_routes.specs.declared.place.Place.TheVariants as places
-use Rattle.page_routes.specs.declared.visit.SubmittedForm.TheVariants as sends
+use Rattle.page_routes.specs.declared.next.SubmittedForm.TheVariants as sends
 use Rattle.page_routes.specs.declared.visit.PageRequest.TheVariants as visits
 
 -- Faults.antt
@@ -156,6 +157,14 @@ path_of_an_earlier_page :
 unfolding digits
 path_of_an_earlier_page = refl
 
+path_of_a_reply : form_path (sends.Reply 7 [] None) ≡ codes "/desk/requests/7/reply"
+unfolding digits
+path_of_a_reply = refl
+
+path_of_a_new_request :
+    form_path (sends.New (codes "it") [] [] [] None) ≡ codes "/desk/queues/it/new"
+path_of_a_new_request = refl
+
 path_of_the_end_of_a_history : reply_path 7 ≡ codes "/desk/requests/7#reply"
 unfolding digits
 path_of_the_end_of_a_history = refl
@@ -197,11 +206,34 @@ page_of_an_address = refl
 place_that_is_no_page : page_or_home (Some places.SignOut) ≡ pages.Home
 place_that_is_no_page = refl
 
-unknown_token : signed_by None true pages.Overdue ≡ visits.NotSignedIn pages.Overdue
+unknown_token :
+    signed_by None None true (nexts.Page pages.Overdue) ≡ visits.NotSignedIn (nexts.Page pages.Overdue)
 unknown_token = refl
 
-known_token : signed_by (Some (codes "ann.1.0a")) true pages.Home ≡ visits.SignedIn (codes "ann.1.0a") true pages.Home
+known_token :
+    signed_by (Some (codes "ann")) (Some (codes "ann.1.0a")) true (nexts.Page pages.Home)
+    ≡ visits.SignedIn (codes "ann.1.0a") true pages.Home
 known_token = refl
+
+known_token_before_a_form :
+    signed_by (Some (codes "ann")) (Some (codes "ann.1.0a")) false
+    (nexts.Form (sends.Comment 7 (codes "Hi")))
+    ≡ visits.Resumed (codes "ann") (codes "ann.1.0a") false (sends.Comment 7 (codes "Hi"))
+known_token_before_a_form = refl
+
+address_of_a_form_with_a_text :
+    next_from (Some (places.Act forms.Comment 7)) (field (codes "text") (codes "Hi") ∷ [])
+    ≡ nexts.Form (sends.Comment 7 (codes "Hi"))
+address_of_a_form_with_a_text = refl
+
+address_of_a_form_without_one :
+    next_from (Some (places.Page (pages.New (codes "it")))) [] ≡ nexts.Page (pages.New (codes "it"))
+address_of_a_form_without_one = refl
+
+address_of_a_press_with_a_text :
+    next_from (Some (places.Act forms.Take 7)) (field (codes "text") (codes "Hi") ∷ [])
+    ≡ nexts.Page (pages.Request 7)
+address_of_a_press_with_a_text = refl
 
 kept_for_a_month : lasts_of true ≡ Month
 kept_for_a_month = refl
@@ -298,8 +330,20 @@ form_of_an_act_stands_at_its_request : form_of (places.Act forms.Take 7) ≡ pag
 form_of_an_act_stands_at_its_request = refl
 
 -- the cookie comes before the body
-nobody_with_a_bad_body : asked_by (places.Act forms.Take 7) None None ≡ Ok (visits.Unknown (pages.Request 7) false)
+nobody_with_a_bad_body :
+    asked_by (places.Act forms.Reply 7) None None
+    ≡ Ok (visits.Unknown (nexts.Page (pages.Request 7)) false)
 nobody_with_a_bad_body = refl
+
+nobody_with_a_text :
+    asked_by (places.Act forms.Reply 7) None (Some (field (codes "text") (codes "Hi") ∷ []))
+    ≡ Ok (visits.Unknown (nexts.Form (sends.Reply 7 (codes "Hi") None)) false)
+nobody_with_a_text = refl
+
+nobody_with_a_press :
+    asked_by (places.Act forms.Take 7) None (Some [])
+    ≡ Ok (visits.Unknown (nexts.Page (pages.Request 7)) false)
+nobody_with_a_press = refl
 
 bad_body_of_a_caller : asked_by (places.Act forms.Take 7) (Some (codes "ann")) None ≡ Err BadBody
 bad_body_of_a_caller = refl
@@ -339,7 +383,7 @@ signing_out_from_another_site settings = refl
 post_from_a_page_of_its_own :
     (settings : Settings)
     → posted_from settings 1000 (from (codes "same-origin")) [] (places.Act forms.Take 7)
-    ≡ Ok (visits.Unknown (pages.Request 7) false)
+    ≡ Ok (visits.Unknown (nexts.Page (pages.Request 7)) false)
 post_from_a_page_of_its_own settings = refl
 
 -- whoever is signed in here
@@ -369,15 +413,16 @@ taking_takes_a_post settings lines = refl
 
 search_to_come_next :
     next_in (field (codes "next") (codes "/desk/find?words=jam") ∷ [])
-    ≡ pages.Find (codes "words=jam") First
+    ≡ nexts.Page (pages.Find (codes "words=jam") First)
 unfolding chars encode is_utf8
 search_to_come_next = refl
 
-other_site_to_come_next : next_in (field (codes "next") (codes "//other/desk/overdue") ∷ []) ≡ pages.Home
+other_site_to_come_next :
+    next_in (field (codes "next") (codes "//other/desk/overdue") ∷ []) ≡ nexts.Page pages.Home
 unfolding chars encode is_utf8
 other_site_to_come_next = refl
 
-nothing_to_come_next : next_in [] ≡ pages.Home
+nothing_to_come_next : next_in [] ≡ nexts.Page pages.Home
 nothing_to_come_next = refl
 
 signed_in_for_a_day :
@@ -401,6 +446,6 @@ signed_in_for_a_month settings e = rw e refl
 token_that_is_not_known :
     (settings : Settings) → sessions.signed_in settings (codes "its-token") 1000 Day ≡ None
     → signed_at settings 1000 (field (codes "token") (codes "its-token") ∷ [])
-    ≡ visits.NotSignedIn pages.Home
+    ≡ visits.NotSignedIn (nexts.Page pages.Home)
 unfolding chars encode is_utf8
 token_that_is_not_known settings e = rw e refl

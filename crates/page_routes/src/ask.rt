@@ -1,15 +1,16 @@
 //! What a caller's form asks.
 
-ghost use Rattle.std.specs.Prelude.{◌≡◌, ◌≢◌, Ok, Err, IfErr, IfOk, codes};
+ghost use Rattle.std.specs.Prelude.{◌≡◌, ◌≢◌, Ok, Err, IfErr, IfOk, Some, codes};
 ghost use Rattle.browser_core.specs.Form as form;
 ghost use Rattle.page_routes.specs.FormArguments.{filled};
 ghost use Rattle.page_routes.specs.Visits as visits;
 
 use crate::fault::PageFault;
 use crate::filled::{command_in, filled_value, typed};
+use crate::next::{Next, SubmittedForm};
 use crate::page::Page;
 use crate::place::Place;
-use crate::visit::{PageRequest, SubmittedForm};
+use crate::visit::PageRequest;
 use browser_core::{Field, fields_of};
 use desk_forms::paths::PathParameter;
 use desk_forms::table::CommandForm;
@@ -31,13 +32,35 @@ pub(crate) fn asked_by(
 {
     let Some(caller) = caller else {
         return Ok(PageRequest::Unknown {
-            next: form_of(place),
+            next: next_of(alloc, place, body)?,
             to_get: false,
         });
     };
     match fields_of(alloc, body)? {
         Some(fields) => asked_at(alloc, caller, place, fields.as_slice()),
         None => Err(PageFault::BadBody),
+    }
+}
+
+/// Where signing in leads from a place with what its form sent.
+fn next_of(alloc: Global, place: Place, body: &[u8]) -> Result<Next, AllocError>
+    ensures { IfOk result (λ next. next ≡ visits.next_of place (form.fields_of body.now)) }
+{
+    match fields_of(alloc, body)? {
+        Some(fields) => next_with(alloc, place, fields.as_slice()),
+        None => Ok(Next::Page(form_of(place))),
+    }
+}
+
+/// The same: to the form, where a text is typed into it, and else to where it stands.
+pub(crate) fn next_with(alloc: Global, place: Place, fields: &[Field]) -> Result<Next, AllocError>
+    ensures { IfOk result (λ next. next ≡ visits.next_of place (Some fields.now)) }
+{
+    match place {
+        Place::Act(CommandForm::Reply, id) => Ok(Next::Form(replied(alloc, id, fields)?)),
+        Place::Act(CommandForm::Comment, id) => Ok(Next::Form(commented(alloc, id, fields)?)),
+        Place::Page(Page::New(queue)) => Ok(Next::Form(sent_in(alloc, queue, fields)?)),
+        place => Ok(Next::Page(form_of(place))),
     }
 }
 
@@ -155,12 +178,17 @@ fn sent_on(
 {
     match act {
         CommandForm::Reply => replied(alloc, id, fields),
-        CommandForm::Comment => Ok(SubmittedForm::Comment {
-            id,
-            text: Text::new(alloc, typed(fields, "text"))?,
-        }),
+        CommandForm::Comment => commented(alloc, id, fields),
         _ => Ok(SubmittedForm::Change { id }),
     }
+}
+
+/// What was sent with the form for a comment.
+fn commented(alloc: Global, id: u32, fields: &[Field]) -> Result<SubmittedForm, AllocError>
+    ensures { IfOk result (λ sent. sent ≡ visits.sent_on CommandForm.Comment id fields.now) }
+{
+    let text = Text::new(alloc, typed(fields, "text"))?;
+    Ok(SubmittedForm::Comment { id, text })
 }
 
 /// What was sent with the form for a reply.

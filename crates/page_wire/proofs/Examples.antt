@@ -1,20 +1,22 @@
 -- Examples of the definitions: what a form's second command takes, where one is led, what is told of a
 -- refusal, and who asks whether the desk is there.
-use Rattle.std.specs.Prelude.{◌≡◌, refl, true, false, List, [], ◌∷◌, codes, Some, None, ℕ}
+use Rattle.std.specs.Prelude.{◌≡◌, refl, ℕ, true, false, List, [], codes, Some, None}
+use Rattle.std.specs.Fmt.{digits}
 use Rattle.desk_model.specs.declared.answer.Answer.TheVariants as answer
 use Rattle.desk_model.specs.declared.command.Command.TheVariants as command
 use Rattle.desk_model.specs.declared.refusal.Refusal.TheVariants as refusal
 use Rattle.desk_pages.specs.RefusalPage.{filed_page, replied_page}
+use Rattle.desk_pages.specs.SignIn.{kept_page}
 use Rattle.desk_pages.specs.declared.unsent.Unsent.TheVariants.{OtherPerson, Refused}
 use Rattle.message_core.specs.declared.message.Message.{Message}
 use Rattle.page_core.specs.Page.{page_bytes}
-use Rattle.page_routes.specs.declared.visit.SubmittedForm.{SubmittedForm}
-use Rattle.page_routes.specs.declared.visit.SubmittedForm.TheVariants as sent
+use Rattle.page_routes.specs.declared.next.SubmittedForm.{SubmittedForm}
+use Rattle.page_routes.specs.declared.next.SubmittedForm.TheVariants as sent
 use Rattle.page_wire.specs.Health.{asks_health}
 use Rattle.page_wire.specs.Next.{follow_up_command, next_text}
 use Rattle.page_wire.specs.Redirect.{led_to}
 use Rattle.page_wire.specs.Replies.{done_reply, half_form, other_person_reply, refused_reply}
-use Rattle.page_wire.specs.Replies.{unsent_form, with_page}
+use Rattle.page_wire.specs.Replies.{sign_in_form, unsent_form, with_page}
 
 -- ---- the second command
 
@@ -81,6 +83,15 @@ replied_and_not_moved :
     refusal.NoTransition
     ≡ replied_page refusal.NoTransition (codes "ann") 1000 7 (codes "open")
 replied_and_not_moved = refl
+
+-- ---- signing in with a form
+
+-- the text and the status that was chosen come along
+reply_that_comes_along :
+    sign_in_form (sent.Reply 7 (codes "Hi") (Some (codes "open"))) false
+    ≡ kept_page (codes "/desk/requests/7/reply") [] [] (codes "Hi") (codes "open") false
+unfolding digits
+reply_that_comes_along = refl
 
 -- ---- whether the desk is there
 

@@ -19,6 +19,7 @@ mod redirect;
 mod render;
 mod replies;
 mod serve;
+mod sign_in;
 mod submit;
 mod unsent;
 mod visits;

@@ -4,7 +4,7 @@ ghost use Rattle.std.specs.Option.{option_map};
 ghost use Rattle.page_core.specs.Page.{page_bytes};
 ghost use Rattle.page_wire.specs.Replies as form;
 
-use crate::replies::with_page;
+use crate::replies::{cookie_for, with_cookie, with_page};
 use desk_core::Refusal;
 use desk_pages::{
     Typed, Unsent, unsent_ask_page, unsent_change_page, unsent_comment_page, unsent_page,
@@ -28,7 +28,8 @@ pub(crate) fn refused_reply(
         ≡ form.refused_reply caller.now moment sent.now refusal) }
 {
     let status = code_of_refusal(&refusal);
-    let page = unsent_form(alloc, caller, moment, sent, &Unsent::Refused(refusal))?;
+    let why = Unsent::Refused(refusal);
+    let page = unsent_form(alloc, caller, moment, sent, &why)?;
     with_page(alloc, status, page)
 }
 
@@ -46,6 +47,24 @@ pub(crate) fn other_person_reply(
     let why = Unsent::OtherPerson(person.clone()?);
     let page = unsent_form(alloc, caller, moment, sent, &why)?;
     with_page(alloc, 409, page)
+}
+
+/// The reply to one who signs in after a form that wasn't sent, with the cookie.
+pub(crate) fn resumed_reply(
+    alloc: Global,
+    caller: &str,
+    moment: Minute,
+    cookie: &Text,
+    keep: bool,
+    sent: &SubmittedForm,
+) -> Result<Vec<u8>, AllocError>
+    ensures { IfOk result (λ out. out.items
+        ≡ form.resumed_reply caller.now moment cookie.now keep sent.now) }
+{
+    let why = Unsent::SignedIn;
+    let page = unsent_form(alloc, caller, moment, sent, &why)?;
+    let cookie = cookie.clone()?;
+    with_cookie(alloc, cookie_for(keep, cookie), 200, page)
 }
 
 /// The page of a form that wasn't sent, with what was typed into it, and what was chosen.

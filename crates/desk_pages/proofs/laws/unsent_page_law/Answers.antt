@@ -1,5 +1,5 @@
-use Rattle.desk_pages.proofs.Unsent.{unsent_ask_same, unsent_change_same, unsent_comment_same}
-use Rattle.desk_pages.proofs.Unsent.{unsent_reply_same, unsent_same}
+use Rattle.desk_pages.proofs.NotSent.{unsent_ask_same, unsent_change_same, unsent_comment_same}
+use Rattle.desk_pages.proofs.NotSent.{unsent_reply_same, unsent_same}
 use Rattle.desk_pages.proofs.laws.unsent_page_law.Goals as goal
 
 pub returns-clause-plain : goal.returns-clause-plain

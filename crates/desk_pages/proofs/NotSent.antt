@@ -9,13 +9,13 @@ use Rattle.desk_pages.specs.RefusalPage.{is_found, typed, typed_page, unsent_ask
 use Rattle.desk_pages.specs.RefusalPage.{unsent_change_page, unsent_comment_page, unsent_page}
 use Rattle.desk_pages.specs.RefusalPage.{unsent_reply_page}
 use Rattle.desk_pages.specs.Refused.{crumb, front_of, is_denied, notice, to_queue, to_request}
-use Rattle.desk_pages.specs.Unsent.{other_note, said_of, title_of, why_told}
+use Rattle.desk_pages.specs.Unsent.{other_note, own_note, said_of, title_of, why_told}
 use Rattle.desk_pages.specs.declared.frame.Place.TheVariants.{Elsewhere}
 use Rattle.desk_pages.specs.declared.markup.refused.TheConstants.{CRUMB, NOTE, NOTICE, TO_QUEUE}
 use Rattle.desk_pages.specs.declared.markup.refused.TheConstants.{TO_QUEUES, TO_REQUEST}
 use Rattle.desk_pages.specs.declared.markup.refused.TheConstants.{TYPED_END, TYPED_TOP}
 use Rattle.desk_pages.specs.declared.unsent.Unsent.{Unsent}
-use Rattle.desk_pages.specs.declared.unsent.Unsent.TheVariants.{Refused, OtherPerson}
+use Rattle.desk_pages.specs.declared.unsent.Unsent.TheVariants.{Refused, OtherPerson, SignedIn}
 use Rattle.desk_model.specs.declared.refusal.Refusal.{Refusal}
 use Rattle.desk_pages.proofs.Asks.{same_ask_again}
 use Rattle.desk_pages.proofs.Frames.{same_bottom, same_top}
@@ -26,6 +26,20 @@ pub same_notice : (front words : List ℕ) (why other : Refusal) → is_denied w
 unfolding notice through
 same_notice front words why other same =
     same_flags NOTICE.now refl _ _ _ _ (ap (λ flag. flag ∷ []) same)
+
+same_own : (caller another : List ℕ) → SameMarkup (own_note caller) (own_note another)
+unfolding own_note through
+same_own caller another = same_filled NOTE.now refl _ _ _
+
+same_mixed : (caller another person : List ℕ)
+    → SameMarkup (other_note caller person) (own_note another)
+unfolding other_note own_note through
+same_mixed caller another person = same_filled NOTE.now refl _ _ _
+
+same_turned : (caller another person : List ℕ)
+    → SameMarkup (own_note caller) (other_note another person)
+unfolding other_note own_note through
+same_turned caller another person = same_filled NOTE.now refl _ _ _
 
 same_other : (caller another person stranger : List ℕ)
     → SameMarkup (other_note caller person) (other_note another stranger)
@@ -38,7 +52,12 @@ same_said (Refused why) (Refused other) caller another same =
     let denied : is_denied why ≡ is_denied other = cc in
     same_notice (front_of why) (front_of other) why other denied
 same_said (Refused why) (OtherPerson person) caller another same = absurd (cc)
+same_said (Refused why) SignedIn caller another same = absurd (cc)
 same_said (OtherPerson person) (Refused other) caller another same = absurd (cc)
+same_said SignedIn (Refused other) caller another same = absurd (cc)
+same_said SignedIn SignedIn caller another same = same_own caller another
+same_said SignedIn (OtherPerson stranger) caller another same = same_turned caller another stranger
+same_said (OtherPerson person) SignedIn caller another same = same_mixed caller another person
 same_said (OtherPerson person) (OtherPerson stranger) caller another same =
     same_other caller another person stranger
 
