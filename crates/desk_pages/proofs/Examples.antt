@@ -42,13 +42,13 @@ use Rattle.desk_pages.specs.Moves.{closing_after, closings, folded, may_go, offe
 use Rattle.desk_pages.specs.Owner.{owner_form}
 use Rattle.desk_pages.specs.Owners.{suggested}
 use Rattle.desk_pages.specs.Paging.{first_of, last_of, paging, paging_told, ways}
-use Rattle.desk_pages.specs.Pieces.{choice, is_filled, quote, table_end}
+use Rattle.desk_pages.specs.Pieces.{choice, is_filled, quote, table_end, time_or_dash}
 use Rattle.desk_pages.specs.Pills.{chosen_of}
 use Rattle.desk_pages.specs.RefusalPage.{typed}
 use Rattle.desk_pages.specs.Refused.{crumb, front_after, front_of, to_request}
 use Rattle.desk_pages.specs.Request.{request_acts, request_shown, request_top, writing}
 use Rattle.desk_pages.specs.Rights.{may_change_owner, may_comment, may_modify, may_reply}
-use Rattle.desk_pages.specs.Rows.{late_by, row, row_told, row_top, table}
+use Rattle.desk_pages.specs.Rows.{asking, cells, late_by, row, row_end, row_told, row_top, table}
 use Rattle.desk_pages.specs.Search.{chosen_in, search_form}
 use Rattle.desk_pages.specs.SignIn.{kept, sign_in_page}
 use Rattle.desk_pages.specs.Sought.{heading_of, is_told, place_of, title_of, told}
@@ -370,7 +370,7 @@ table_of_two :
     table (codes "Late") (codes "bob") 10 (found ∷ record found { id = 4 } ∷ [])
     ≡ filled TABLE_TOP.now (codes "Late" ∷ []) []
     ++ (row (codes "bob") 10 found ++ (row (codes "bob") 10 (record found { id = 4 }) ++ table_end))
-unfolding digits filled_from row table
+unfolding asking cells digits filled_from row row_end row_top table table_end time_or_dash
 table_of_two = refl
 
 -- ---- links
