@@ -1,10 +1,10 @@
 -- Examples of the definitions: the ends of links by their kind, which entries are told, and which
 -- statuses the settings know.
-use Rattle.std.specs.Prelude.{◌≡◌, refl, true, false, ℕ, List, [], ◌∷◌, Some, None, codes}
-use Rattle.lifecycle_core.specs.Standard.{default_lifecycle}
+use Rattle.std.specs.Prelude.{◌≡◌, refl, true, false, ℕ, List, [], ◌∷◌, None, codes}
 use Rattle.settings_core.specs.Settings.{lifecycle_named}
 use Rattle.settings_core.specs.declared.settings.Settings.{Settings}
 use Rattle.desk_model.specs.Known.{knows_status}
+use Rattle.desk_model.specs.Lifecycles.{has_status}
 use Rattle.desk_model.specs.declared.rows.Entry.{Entry}
 use Rattle.desk_model.specs.declared.rows.EntryKind.{EntryKind}
 use Rattle.desk_model.specs.declared.rows.EntryKind.TheVariants.{Comment, Reply, Status}
@@ -89,10 +89,10 @@ new_in queue =
     }
 
 status_of_its_queue's_lifecycle :
-    (settings : Settings) → lifecycle_named settings (codes "default") ≡ Some default_lifecycle
+    (settings : Settings)
+    → has_status (lifecycle_named settings (codes "default")) (codes "new") ≡ true
     → knows_status settings (of_queues queues) (new_in (codes "general")) ≡ true
-unfolding default_lifecycle
-status_of_its_queue's_lifecycle settings e = rw e refl
+status_of_its_queue's_lifecycle settings e = e
 
 -- whatever the lifecycle of another queue has
 status_of_another_lifecycle :
