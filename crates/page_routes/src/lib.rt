@@ -3,7 +3,8 @@
 //! - `visit_of` gives what is asked, or the first fault of `NoRoute`, `BadMethod`, `OtherSite` and
 //!   `BadBody`. `NoMemory` may come in place of any answer.
 //! - `is_page_place` tells which targets are places of the pages; all others are the interface's.
-//! - `page_path` and `form_path` are the paths to which an answer leads: numbers and names alone.
+//! - `page_path` and `form_path` are the paths to which an answer leads: numbers and names, and of a
+//!   search what was typed for it.
 #![tactic(auto)]
 
 mod ask;

@@ -8,7 +8,7 @@ use thiserror::Error;
 /// Why settings can't be attached to tables.
 #[derive(Clone, Copy, Debug, PartialEq, Eq, Error)]
 pub enum AttachFault {
-    /// The tables could not be read.
+    /// The tables could not be read, or their due moments not written.
     #[error("the tables could not be read: {0}")]
     Store(StoreFault),
     /// The settings lack a name of the tables: a queue's lifecycle or level, a request's level,

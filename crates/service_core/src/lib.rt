@@ -18,9 +18,10 @@
 //! - The due moments kept are those of the desk (`kept_due_law`).
 //!
 //! What `refusal_without_facts` refuses costs no statement, a command on a request that isn't there
-//! one, but `link` and `link -d` two, four or six. `queues` reads one row where the grants let the
+//! one, but `link` and `link -d` two, four or five. `queues` reads one row where the grants let the
 //! caller see one queue alone, else all. `show` asks once or twice for each request that one
-//! is linked with, and goes over all links. `ls`, `overdue` and `workload` go over all requests.
+//! is linked with, and goes over all links. `ls`, `overdue`, `workload`, `find` and `queue_loads` go
+//! over all requests.
 #![tactic(auto)]
 
 pub mod alike;

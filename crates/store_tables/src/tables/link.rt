@@ -82,7 +82,7 @@ pub fn links<S: Alter>(alloc: Global, tables: &mut Tables<S>) -> Result<Vec<Link
 }
 
 /// The links from a request, by source, kind and target. `Mismatch` where a row is no link,
-/// `Refused` where the store refuses it.
+/// `Refused` where the store or memory refuses it.
 pub fn links_from<S: Alter>(
     alloc: Global,
     tables: &mut Tables<S>,
@@ -103,7 +103,7 @@ pub fn links_from<S: Alter>(
 }
 
 /// The links to a request, by source, kind and target. `Mismatch` where a row is no link,
-/// `Refused` where the store refuses it.
+/// `Refused` where the store or memory refuses it.
 pub fn links_to<S: Alter>(
     alloc: Global,
     tables: &mut Tables<S>,

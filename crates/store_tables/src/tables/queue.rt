@@ -38,7 +38,8 @@ impl Stored for QueueRow {
     }
 }
 
-/// The queues, by name. `Mismatch` where a row is no queue, `Refused` where the store refuses it.
+/// The queues, by name. `Mismatch` where a row is no queue, `Refused` where the store or memory
+/// refuses it.
 pub fn queues<S: Alter>(alloc: Global, tables: &mut Tables<S>) -> Result<Vec<QueueRow>, StoreFault>
     ensures read { Reads (λ c xs. AreOrdered by_name c.queues xs.items)
         (seen S.Store tables.old) (seen S.Store tables.new) result }

@@ -62,7 +62,7 @@ fn watcher_rows<S: Alter>(
 }
 
 /// The watchers, by request, role and person. `Mismatch` where a row is no watcher,
-/// `Refused` where the store refuses it.
+/// `Refused` where the store or memory refuses it.
 pub fn watchers<S: Alter>(alloc: Global, tables: &mut Tables<S>) -> Result<Vec<Watcher>, StoreFault>
     ensures read { Reads (λ c xs.
         AreOrdered by_watcher c.watchers xs.items)
@@ -97,7 +97,7 @@ pub fn watchers_of<S: Alter>(
 }
 
 /// The watchers who are that person, by request and role. `Mismatch` where a row is no watcher,
-/// `Refused` where the store refuses it.
+/// `Refused` where the store or memory refuses it.
 pub fn watches_of<S: Alter>(
     alloc: Global,
     tables: &mut Tables<S>,
