@@ -96,9 +96,11 @@ def copied(trial):
 
 
 def copy(trial, at, lookers):
-    """A copy is the desk of that moment: its tables are, and a second desk on it answers as the first."""
+    """A copy is the desk of that moment: it has the tables of the first and of the model, and a second desk on it
+    answers as the first."""
     trial.up()
     path = copied(trial)
+    trial.need("a copy beside its desk", kept.unlike(path, trial.programs.path("desk.db")), None)
     differs, rows = kept.difference(path, trial.desk)
     trial.need("the copy", differs, None)
     trial.figures.compared["rows of tables"] += rows
@@ -152,7 +154,7 @@ def load(trial, asks, killed):
 
 def answered(trial, ask, seconds):
     """What a line is answered."""
-    told = wanted(trial.desk, ask)
+    told = trial.told(ask)
     trial.figures.answered(ask, outcome(told), seconds)
     if ask.name == "create" and ask.key and number_filed(told):
         trial.numbers[ask.key] = number_filed(told)

@@ -15,6 +15,7 @@ class Figures:
         self.by_hour, self.asked_by_hour = collections.defaultdict(list), collections.Counter()
         self.faults, self.sessions = collections.Counter(), collections.Counter()
         self.nights, self.loads, self.fields = [], [], set()
+        self.seldom = collections.Counter()
         self.compared = collections.Counter()
 
     def answered(self, ask, code, seconds):
