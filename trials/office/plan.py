@@ -280,15 +280,15 @@ class Plan:
             by = choose.choice([it for it in sorted(asking) if it in self.office.tokens])
             return Ask(at, way, by, name, [one.number])
         if lot < 0.62 and way == "page":
-            return Ask(at, way, self.anyone(), "find", [self.search()])
+            return Ask(at, way, self.anyone(), "find", [self.search(at)])
         if lot < 0.75:
             queue = choose.choice(list(QUEUES))
             return Ask(at, way, self.helper(queue), "ls", [queue])
         return Ask(at, way, self.anyone(), choose.choice(["queues", "overdue", "workload"]))
 
-    def search(self):
+    def search(self, at):
         choose, fields = self.choose, {}
-        day = (FIRST_DAY + datetime.timedelta(days=choose.randrange(60))).isoformat()
+        day = (datetime.date(1970, 1, 1) + datetime.timedelta(days=at // 1440 - choose.randrange(60))).isoformat()
         lots = {"words": choose.choice([*texts.THINGS, "IS JAMMED", "straße", "<script>", "1"]), "replies": "yes",
                 "queue": choose.choice(list(QUEUES)), "state": choose.choice(["open", "closed"]),
                 "owner": choose.choice(["Me", "Nobody", self.anyone()]),
