@@ -1,5 +1,6 @@
 """The steps of so many days of an office, made from a seed. A model of the plan's own says which requests
 there are, so that people do what they would do. Steps name requests by the numbers of that model."""
+import collections
 import datetime
 import functools
 import random
@@ -10,10 +11,13 @@ from office import seldom, texts
 from office.asks import Ask, commands
 from office.hostile import EACH, hostile, unspelled
 from office.known import Desk, Known
+from office.settle import refusal_of
 from office.setup import QUEUES, Office, working_days
 
 FIRST_DAY = datetime.date(2026, 3, 23)
 ASKS_A_DAY, NIGHT_LINES, HOSTILE_A_DAY = 240, 14, 12
+# among how many tries the one is chosen whose refusal was seen least
+TRIES = 30
 KINDS = ["DependsOn", "MemberOf", "RefersTo"]
 ROLES = ["requestor", "cc", "admincc"]
 
@@ -23,7 +27,7 @@ class Plan:
         self.choose, self.asks = random.Random(seed), asks
         self.office = Office(self.choose)
         self.desk = Desk(Known(self.office.text()))
-        self.steps, self.live, self.closed, self.fields = [], [], [], []
+        self.steps, self.live, self.closed, self.fields, self.refusals = [], [], [], [], collections.Counter()
         self.begin(working_days(first, days)[0])
         for number, day in enumerate(working_days(first, days)):
             self.day(number, day)
@@ -333,11 +337,24 @@ class Plan:
         if way == "page" and asks[0]:
             asks.append(seldom.searched(self.choose, asks[0]))
         asks.append(seldom.empty(self.choose, at, way, by, queue, one.number if one else 1))
+        asks += [self.refused_seldom(at, way), self.refused_seldom(at, way)]
         return [it for it in asks if it]
 
     def do_seldom(self, way, at):
         for ask in self.seldom(at, way):
             self.ask(ask)
+
+    def refused_seldom(self, at, way):
+        """Of some tries, that whose refusal was seen least so far, or None."""
+        kinds = [self.trespass, self.file, self.take, self.answer, self.comment, self.move, self.hand, self.people, self.link]
+        tries = [self.choose.choice(kinds)(at, way) for _ in range(TRIES)]
+        tries = [it for it in tries if it and it.way == way and not it.reads]
+        for ask in tries[::2]:
+            ask.by = self.anyone()
+        refused = [(refusal_of(self.desk, it), it) for it in tries]
+        why, ask = min((it for it in refused if it[0]), key=lambda it: self.refusals[it[0]], default=(None, None))
+        self.refusals[why] += 1
+        return ask
 
     def in_a_field(self, at, way):
         """A hostile text in the next field, by somebody who may fill it in, and the field. Where that way has no
