@@ -36,6 +36,7 @@ look:
 test:
 	@date '+%T: the proofs begin'
 	cmp examples/office.toml crates/suite/data/texts/office.toml
+	models/sheet
 	rm -rf crates/*/out/rlib
 	RT_JOBS=$(JOBS) rt ci
 	@date '+%T: the edits begin'

@@ -34,6 +34,16 @@ def refusal_text(refusal):
     return f"refused {refusal.number} {refusal.name}{right}"
 
 
+def of_another(caller, person):
+    """What comes of a form that stood on another person's page: nothing is done, and this is said."""
+    return 409, f"You are signed in as {caller} now. This form was {person}’s: nothing was sent."
+
+
+def of_who_signed_in(caller):
+    """What is said of a form that nobody sent, to who signed in then. Nothing is done."""
+    return f"You are signed in as {caller}, but nothing was sent yet. Look at what you typed, and press the button."
+
+
 # ---- lists
 
 def time_text(moment):

@@ -7,6 +7,9 @@ import re
 import threading
 import zoneinfo
 
+from client import cookie_of
+from pages import of_another, of_who_signed_in
+
 from browser.looks import SHOWS
 from browser.office import FREE, LAST, LATE, TALK, TOKENS
 from browser.trial import chromium, expect, holds, serving, signed_in, tally
@@ -188,10 +191,14 @@ def filing():
         browser.follow(".sheet button")
         holds("the status isn't the chosen one", "status: open\n" in visitor.told(
             f"/requests/{number + 1}").text)
-        browser.put("[name=number]", "9")
+        browser.put("[name=q]", " #9 ")
         browser.key("Enter")
         browser.wait("Page.loadEventFired")
         expect("a number", browser.path(), "/desk/requests/9")
+        browser.put("[name=q]", "at once")
+        browser.key("Enter")
+        browser.wait("Page.loadEventFired")
+        expect("words", (browser.path(), "Open at once" in browser.text("main")), ("/desk/find", True))
         browser = signed_in(visitor, "dora")
         browser.put("#queue", "keys")
         browser.of_element("#level", "it.value = 'urgent'")
@@ -399,7 +406,7 @@ def keys():
             order.append(name)
             holds(f"it isn't seen that the keys go to {name}", browser.run(OUTLINED))
         expect("the first", order[:1], ["#main"])
-        wanted = {"/", "/desk/overdue", "number", "text", "status", "person", "level", "role",
+        wanted = {"/", "/desk/overdue", "q", "text", "status", "person", "level", "role",
                   "kind", "other"}
         expect("not reached by the keys", wanted - set(order), set())
         browser.open(visitor.origin + AT)
@@ -459,6 +466,40 @@ def other_sites():
                ("open", True))
 
 
+def meanwhile():
+    """Another person signs in with the browser while a text is typed, or its session ends: the text isn't sent, and
+    stands in its form again, to be sent by who is signed in then."""
+    with serving("meanwhile") as visitor:
+        browser, form = signed_in(visitor, "bob", AT), "[action$='/reply']"
+        before = visitor.told(f"/requests/{TALK}/history").text
+        browser.put(f"{form} textarea", TEXT)
+        browser.ask("Network.setCookie", name="desk", value=cookie_of(TOKENS["ann"], "ann"), url=visitor.origin,
+                    httpOnly=True, sameSite="Lax")
+        browser.follow(f"{form} button")
+        holds("another person: it isn't said", of_another("ann", "bob")[1] in browser.text())
+        expect("another person: what was typed", browser.of_element("textarea", "it.value"), TEXT)
+        expect("another person: the history", visitor.told(f"/requests/{TALK}/history").text, before)
+        browser.put("textarea", "by ann")
+        browser.follow(".write button")
+        expect("sent by who is signed in", last_of(visitor), "reply by ann")
+        before = visitor.told(f"/requests/{TALK}/history").text
+        browser.put(f"{form} textarea", TEXT)
+        browser.ask("Network.clearBrowserCookies")
+        browser.follow(f"{form} button")
+        holds("an ended session: it isn't said", "Nothing was sent yet" in browser.text())
+        browser.write("not-a-token-at-all-0000")
+        browser.loads(lambda: browser.key("Enter"))
+        holds("a wrong token isn't told", "refused 1 UnknownCaller" in browser.text())
+        browser.write(TOKENS["ann"])
+        browser.loads(lambda: browser.key("Enter"))
+        holds("signed in: it isn't said", of_who_signed_in("ann") in browser.text())
+        expect("signed in: what was typed", browser.of_element("textarea", "it.value"), TEXT)
+        expect("signed in: the history", visitor.told(f"/requests/{TALK}/history").text, before)
+        browser.put("textarea", "after all")
+        browser.follow(".write button")
+        expect("sent after signing in", last_of(visitor), "reply after all")
+
+
 def leaving():
     """After signing out nothing is left, and behind the back button neither: not even the page that
     was the first after signing in, which a browser keeps although the cookie is another."""
@@ -485,4 +526,4 @@ PARTS = {"signing": signing_in, "writing": writing, "owning": owning, "changing"
          "pressing": one_press, "folds": folds, "filing": filing, "refusing": refusing,
          "at-once": at_once, "choices": choices, "searching": searching,
          "counting": counting, "moments": local_time,
-         "keys": keys, "others": other_sites, "leaving": leaving}
+         "keys": keys, "others": other_sites, "meanwhile": meanwhile, "leaving": leaving}

@@ -50,6 +50,21 @@ def texts(page):
     return found
 
 
+def hidden(page, action):
+    """The hidden fields of the first form of a page with that action."""
+    found, inside = {}, False
+    for it in tokens(page):
+        if it["type"] in ("StartTag", "EmptyTag"):
+            marks = {name[1]: value for name, value in it["data"].items()}
+            if it["name"] == "form":
+                if found:
+                    break
+                inside = marks.get("action") == action
+            elif inside and it["name"] == "input" and marks.get("type") == "hidden":
+                found[marks["name"]] = marks["value"]
+    return found
+
+
 def by_tidy(page):
     """What tidy complains of. It knows no div in a dl, and takes an empty address for a slip."""
     known = re.sub(r"<div[^>]*>(<dt>)", r"\1", page.replace('href=""', 'href="#"'))

@@ -1,9 +1,11 @@
 """The parts that need no browser: the pages' heads and markup, texts that would be markup, and
 messages that no page of the desk sends."""
+import hashlib
 import re
 import time
 
 from client import cookie_of
+from pages import of_another, of_who_signed_in
 from sessions import DAY, MONTH
 
 from browser import markup
@@ -70,9 +72,11 @@ def shown():
     with serving("shown") as visitor:
         for person, place, code in SHOWN:
             page(f"{person} at {place}", visitor.get(place, person), code)
-        sheet = re.search(r'href="(/style\.css\?\d+)"', visitor.get("/").text)
-        holds("a style sheet is named with its number", sheet)
-        reply = visitor.get(sheet[1] if sheet else "/style.css", None)
+        sheet = re.search(r'href="/style\.css\?([0-9a-f]{8})"', visitor.get("/").text)
+        holds("a style sheet is named", sheet)
+        reply = visitor.get(f"/style.css?{sheet[1]}" if sheet else "/style.css", None)
+        expect("its name is its checksum", sheet and sheet[1],
+               hashlib.sha256(reply.body).hexdigest()[:8])
         expect("the style sheet", (reply.code, reply.head("content-type")),
                (200, "text/css; charset=utf-8"))
         expect("it is kept", reply.head("cache-control"), "public, max-age=31536000, immutable")
@@ -256,17 +260,17 @@ def bodies():
     with serving("bodies") as visitor:
         at = f"/desk/requests/{TALK}"
         for what, place, body in (
-            ("a field twice", f"{at}/give", "person=cid&person=ann"),
-            ("a field too much", f"{at}/take", "person=cid"),
-            ("a field that lacks", f"{at}/watch", "role=cc"),
-            ("no field", f"{at}/reply", ""),
-            ("half an escape", f"{at}/reply", "text=%4"),
-            ("an escape that is none", f"{at}/reply", "text=%zz"),
-            ("no UTF-8", f"{at}/reply", "text=%ff%fe"),
-            ("a number that is none", "/desk/go", "number=12a"),
-            ("a number too large", "/desk/go", "number=4294967296"),
-            ("a role that is none", f"{at}/watch", "role=owner&person=ann"),
-            ("a kind that is none", f"{at}/link", "kind=Likes&other=1"),
+            ("a field twice", f"{at}/give", "me=bob&person=cid&person=ann"),
+            ("a field too much", f"{at}/take", "me=bob&person=cid"),
+            ("a field that lacks", f"{at}/watch", "me=bob&role=cc"),
+            ("nobody's page", f"{at}/take", ""),
+            ("two persons' page", f"{at}/take", "me=bob&me=bob"),
+            ("no field", f"{at}/reply", "me=bob"),
+            ("half an escape", f"{at}/reply", "me=bob&text=%4"),
+            ("an escape that is none", f"{at}/reply", "me=bob&text=%zz"),
+            ("no UTF-8", f"{at}/reply", "me=bob&text=%ff%fe"),
+            ("a role that is none", f"{at}/watch", "me=bob&role=owner&person=ann"),
+            ("a kind that is none", f"{at}/link", "me=bob&kind=Likes&other=1"),
         ):
             reply = visitor.post(place, body)
             page(what, reply, 400)
@@ -276,20 +280,74 @@ def bodies():
             expect(f"{what}: it is taken", visitor.post(f"{at}/reply", {"text": text}).code, 303)
             last = visitor.told(f"/requests/{TALK}/history").text.splitlines()[-1]
             expect(f"{what}: as it is kept", last.partition("reply ")[2], wanted)
-        expect("a lone CR", visitor.post(f"{at}/reply", "text=a%0Db").code, 400)
+        expect("a lone CR", visitor.post(f"{at}/reply", "me=bob&text=a%0Db").code, 400)
         longest = {"text": "漢" * 20_000}
         expect("the longest text", visitor.post(f"{at}/reply", longest).code, 303)
         holds("it is shown whole", longest["text"] in visitor.get(at).text)
-        reply = visitor.post(f"{at}/reply", "text=" + "a" * 300_000)
+        reply = visitor.post(f"{at}/reply", "me=bob&text=" + "a" * 300_000)
         expect("a body that is too long", (reply.code, "bad message 1 TooLong" in reply.text),
                (400, True))
+
+
+def other_persons():
+    """A form of another person's page does nothing. Its page says so, and has what was typed."""
+    with serving("other") as visitor:
+        at = f"/desk/requests/{TALK}"
+        before = visitor.told(f"/requests/{TALK}/history").body
+        count = visitor.told("/queues/support/requests").body
+        for place, fields in (
+            (f"{at}/reply", {"text": "a <b>text</b>", "status": "stalled"}), (f"{at}/comment", {"text": "an aside"}),
+            (f"{at}/status", {"status": "stalled"}), (f"{at}/untake", {}),
+            ("/desk/queues/support/new", {"subject": "A badge", "requestors": "ann", "text": "of a visitor"}),
+            ("/desk/queues", {"queue": "more", "lifecycle": "default", "level": ""}),
+        ):
+            reply = visitor.post(place, {"me": "ann", **fields})
+            code, said = of_another("bob", "ann")
+            page(f"ann's form at {place}", reply, code)
+            shown = markup.texts(reply.text)
+            holds(f"{place}: it isn't said", any(said in it for it in shown))
+            lost = [it for name, it in fields.items() if name in ("text", "subject", "requestors")
+                    and not any(it in one for one in shown)]
+            expect(f"{place}: what was typed and isn't kept", lost, [])
+            if "text" in fields:
+                holds(f"{place}: it can't be sent by bob", 'name="me" value="bob"' in reply.text)
+        expect("the history after them", visitor.told(f"/requests/{TALK}/history").body, before)
+        expect("the queue after them", visitor.told("/queues/support/requests").body, count)
+
+
+def signed_out():
+    """A text that is sent after its session has ended stands in its form again after signing in, and wasn't sent."""
+    with serving("ended") as visitor:
+        at = f"/desk/requests/{TALK}"
+        before = visitor.told(f"/requests/{TALK}/history").body
+        text = "\n A <b>text</b> & \"more\"\n\n"
+        for place, fields in ((f"{at}/reply", {"text": text, "status": "stalled"}), (f"{at}/comment", {"text": text}),
+                              ("/desk/queues/support/new", {"subject": "<i>A badge", "requestors": "ann", "text": text,
+                                                            "status": "open"})):
+            reply = visitor.post(place, {"me": "bob", **fields}, None)
+            page(f"sent by nobody to {place}", reply, 403)
+            kept = markup.hidden(reply.text, "/sign-in")
+            expect(f"{place}: what comes along", {it: kept[it] for it in kept if kept[it]}, {"next": place, **fields})
+            again = visitor.post("/sign-in", kept | {"token": "none"}, None)
+            page(f"{place}: an unknown token", again, 403)
+            expect(f"{place}: what comes along then", markup.hidden(again.text, "/sign-in"), kept)
+            reply = visitor.post("/sign-in", kept | {"token": TOKENS["bob"]}, None)
+            page(f"{place}: signed in", reply, 200)
+            holds(f"{place}: no cookie", (reply.head("set-cookie") or "").startswith("desk=bob."))
+            holds(f"{place}: it isn't said", any(of_who_signed_in("bob") in it for it in markup.texts(reply.text)))
+            expect(f"{place}: whose form", markup.hidden(reply.text, place).get("me"), "bob")
+            lost = [it for it in fields.values() if not any(it in one for one in markup.texts(reply.text))]
+            expect(f"{place}: what was typed and isn't kept", lost, [])
+        reply = visitor.post(f"{at}/take", {"me": "bob"}, None)
+        expect("a press by nobody leads to", markup.hidden(reply.text, "/sign-in"), {"next": at})
+        expect("the history after them", visitor.told(f"/requests/{TALK}/history").body, before)
 
 
 def methods():
     """Methods that a place doesn't take, and places that only take a form."""
     with serving("methods") as visitor:
         for line, allow in (("PUT /", "GET, HEAD"), ("POST /", "GET, HEAD"), ("DELETE /desk/overdue", "GET, HEAD"),
-                            ("PATCH /desk/go", "GET, HEAD, POST"), ("POST /style.css", "GET, HEAD"),
+                            ("POST /desk/go?q=1", "GET, HEAD"), ("POST /style.css", "GET, HEAD"),
                             (f"PUT /desk/requests/{TALK}/take", "GET, HEAD, POST")):
             reply = visitor.send(line, visitor.lines_of("bob"), "")
             page(line, reply, 405)
@@ -297,7 +355,14 @@ def methods():
         reply = visitor.send("HEAD /", visitor.lines_of("bob"))
         expect("HEAD", (reply.code, reply.body), (200, b""))
         for place, to in ((f"/desk/requests/{TALK}/reply", f"/desk/requests/{TALK}"),
-                          ("/desk/queues", "/"), ("/desk/go", "/"), ("/sign-out", "/")):
+                          ("/desk/queues", "/"), ("/sign-out", "/"), ("/desk/go", "/desk/find?"),
+                          ("/desk/go?q=7", "/desk/requests/7"),
+                          ("/desk/go?q=+%237+", "/desk/requests/7"),
+                          ("/desk/go?q=7a", "/desk/find?words=7a"),
+                          ("/desk/go?q=4294967296", "/desk/find?words=4294967296"),
+                          ("/desk/go?q=a%0D%0Ab+%26", "/desk/find?words=a%0D%0Ab+%26"),
+                          ("/desk/go?q=%zz", "/desk/find?words=%zz"),
+                          ("/desk/go?p=7", "/desk/find?"), ("/desk/go?q=", "/desk/find?words=")):
             reply = visitor.get(place)
             expect(f"GET {place}", (reply.code, reply.head("location")), (303, to))
 
@@ -354,4 +419,4 @@ def cookies():
 
 
 PARTS = {"shown": shown, "apart": tell_apart, "refused": refused, "half": half_done, "same": same,
-         "posts": posts, "bodies": bodies, "methods": methods, "cookies": cookies}
+         "posts": posts, "bodies": bodies, "other": other_persons, "ended": signed_out, "methods": methods, "cookies": cookies}

@@ -58,10 +58,11 @@ class Visitor:
         return self.send(f"GET {path}", self.lines_of(person, more))
 
     def post(self, path, fields, person="bob", more=None):
-        """A form, of the desk's own pages unless other lines say otherwise."""
+        """A form, of the desk's own pages and of this person's unless other lines or fields say otherwise."""
         origin = [f"Origin: {self.origin}", "Sec-Fetch-Site: same-origin"] if more is None else more
         kind = "Content-Type: application/x-www-form-urlencoded"
-        body = fields if isinstance(fields, (str, bytes)) else form(fields)
+        mine = {"me": person} if path.startswith("/desk/") and path != "/desk/go" else {}
+        body = fields if isinstance(fields, (str, bytes)) else form(mine | fields)
         return self.send(f"POST {path}", self.lines_of(person, [kind, *origin]), body)
 
     def told(self, path, person="bob"):

@@ -94,7 +94,7 @@ class Browser:
         if kept:
             self.counts["ended by their time" if kept.ends() <= self.clock.now else "ended by new settings"] += 1
         hidden = reader.forms(top).get("/sign-in", {})
-        if [*hidden] != ["next"] or plain(hidden["next"]) != plain(path):
+        if [*hidden][:1] != ["next"] or plain(hidden["next"]) != plain(path):
             raise Differs(f"{path} for {by}: the page to sign in leads to {hidden}")
         return hidden
 
@@ -117,10 +117,16 @@ class Browser:
         del self.kept[by]
 
     def post_signed_out(self, ask, hidden):
-        """A form that is sent by one who signed out meanwhile: it is asked to sign in, to the form's page."""
+        """A form that is sent by one who signed out meanwhile: it is asked to sign in, to the form with the text that
+        was typed into it, or to the page of a form without one."""
         path, fields = form(ask)
         reply = self.send(path, {**(hidden or {}), **fields}, [])
-        self.is_asked_to_sign_in(ask.by, form_page(ask)[0], reply)
+        kept = self.is_asked_to_sign_in(ask.by, path if "text" in fields else form_page(ask)[0], reply)
+        if kept and "text" in fields:
+            given = {name: feeds(it) for name, it in fields.items()}
+            comes = {name: feeds(kept.get(name, "")) for name in fields}
+            if comes != given:
+                raise Differs(f"{path} for {ask.by}: {comes} comes along in place of {given}")
         self.counts["signed out in another tab"] += 1
 
     # ---- pages and forms
@@ -160,12 +166,17 @@ class Browser:
         path, fields = form(ask)
         if not self.ready(ask.by):
             return None
-        self.last = reply = self.send(path, {**(hidden or {}), **fields}, [f"Cookie: desk={self.kept[ask.by].value}"])
+        self.last = reply = self.send(path, {"me": ask.by, **(hidden or {}), **fields}, [f"Cookie: desk={self.kept[ask.by].value}"])
         if reply is None:
             return None
         if reply.code == 303:
             return 303, reply.head["Location"]
         return reply.code, reader.facts_of("refused", reply.code, reply.text())
+
+
+def feeds(text):
+    """A text with one kind of line ends."""
+    return re.sub("\r\n|\r", "\n", text)
 
 
 def plain(place):

@@ -106,7 +106,12 @@ class Trial:
         else:
             self.desk.with_settings(known)
             self.figures.faults["settings changed"] += 1
-        self.need("desk_load --check", self.programs.load(b"", "--check")[:2], ("nothing is wrong\n", 0))
+        printed, status = self.programs.load(b"", "--check")[:2]
+        found, *warned = printed.splitlines()
+        self.need("desk_load --check", (found, status), ("nothing is wrong", 0))
+        self.need("its warnings", sorted(warned), sorted(
+            f"warning: the token of `{person}` has fewer than 22 characters"
+            for word, person in known.tokens.items() if len(word) < 22))
 
     def do_ask(self, at, ask):
         self.up()
@@ -179,7 +184,9 @@ class Trial:
         """The page on which the form stands is looked at, and its hidden fields go with the form."""
         path, name, words = form_page(ask)
         self.page(ask, name, path, *words)
-        return hidden_of(self.browser.last, form(ask)[0])
+        fields = hidden_of(self.browser.last, form(ask)[0])
+        self.need(f"whose page {path} is", fields.get("me", ask.by), ask.by)
+        return fields
 
     # ---- many at once
 

@@ -1,4 +1,5 @@
 pub mod BadRows
+mod Examples
 pub mod KindLemmas
 pub mod Searching
 pub mod Telling

@@ -3,4 +3,5 @@ pub mod Columns
 pub mod Files
 pub mod Rows
 pub mod Tables
+pub mod Weak
 pub mod Words

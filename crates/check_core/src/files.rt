@@ -1,13 +1,14 @@
 //! What is wrong first with settings and a file of tables.
 
-ghost use Rattle.std.specs.Prelude.{◌≡◌, IfOk, false};
-ghost use Rattle.check_core.specs.Files.{IsFinding, IsOfTables};
+ghost use Rattle.std.specs.Prelude.{◌≡◌, ◌≢◌, [], IfOk, false, string_bytes};
+ghost use Rattle.check_core.specs.Files.{IsFinding, IsOfTables, IsWarnedOf};
 
 use crate::bad_rows::bad_row;
 use crate::columns::{Table, first_tables, tested_tables};
 use crate::tables::{Wrong, first_fault};
 use crate::text::settings_told;
-use settings_core::Settings;
+use crate::weak::warnings;
+use settings_core::{Settings, SettingsFault};
 use settings_places::reading::read_telling;
 use sqlite::Connection;
 use std::alloc::{AllocError, Global};
@@ -48,6 +49,26 @@ pub fn first_finding(
             }
         }
         Err(unread) => Ok(Some(Finding::Settings(settings_told(rt.alloc(), &unread)?))),
+    }
+}
+
+/// A line for each weak token of the settings, which tells whose it is and why; none where they have a
+/// fault.
+pub fn warnings_of(alloc: Global, text: &[u8]) -> Result<String, AllocError>
+    ensures { IfOk result (λ told. IsWarnedOf text.now (string_bytes told)) }
+{
+    match Settings::read(alloc, text) {
+        Ok(settings) => warnings(alloc, settings.tokens()),
+        Err(fault) => no_warning(alloc, fault),
+    }
+}
+
+fn no_warning(alloc: Global, fault: SettingsFault) -> Result<String, AllocError>
+    ensures { IfOk result (λ told. (fault ≢ SettingsFault.NoMemory) × (string_bytes told ≡ [])) }
+{
+    match fault {
+        SettingsFault::NoMemory => Err(AllocError),
+        _ => Ok(String::new(alloc)),
     }
 }
 

@@ -15,4 +15,5 @@ pub mod rows;
 pub mod tables;
 pub mod text;
 mod typed;
+pub mod weak;
 mod why;

@@ -7,6 +7,7 @@ mod load;
 mod new_token;
 mod options;
 mod progress;
+mod rehearsal;
 mod tables;
 mod usage;
 

@@ -14,7 +14,8 @@ Options:
   --stop            End at the first refusal
   --from N          Begin with line N
   --commit N        Write N commands that are done as one transaction: a stop leaves all or none
-  --check           Read no line: tell what is wrong first with the settings and the tables
+  --check           Read no line: tell what is wrong first with the settings and the tables, and
+                    warn of weak tokens
   --new-token PERSON
                     Alone: print a new token for a person, as a line of the settings
   --help            Print help, alone

@@ -21,35 +21,41 @@ use Rattle.desk_pages.proofs.Offers.{same_moves}
 use Rattle.desk_pages.proofs.Persons.{same_give, same_owner, same_owners, same_people}
 use Rattle.desk_pages.proofs.Tables.{same_choice, same_when}
 
-same_level : (id another : ℕ) (present now : Option (List ℕ)) (levels others : List (Named Level))
+same_level : (id another : ℕ) (caller other : List ℕ) (present now : Option (List ℕ))
+    (levels others : List (Named Level))
     → levels_told present levels ≡ levels_told now others
-    → SameMarkup (level_form id present levels) (level_form another now others)
+    → SameMarkup (level_form id caller present levels)
+    (level_form another other now others)
 unfolding level_form through
-same_level id another present now levels others same =
+same_level id another caller other present now levels others same =
     same_both (same_filled LEVEL_TOP.now refl _ _ _)
     (same_both (same_rows (level_row present) (level_row now)
     (λ level. is_present present level.name) (λ level. is_present now level.name)
-    (λ level other. same_choice _ _ level.name other.name) levels others same)
+    (λ level one. same_choice _ _ level.name one.name) levels others same)
     (same_filled LEVEL_END.now refl _ _ _))
 
-same_watching : (id another : ℕ) → SameMarkup (watching id) (watching another)
+same_watching : (id another : ℕ) (caller other : List ℕ)
+    → SameMarkup (watching id caller) (watching another other)
 unfolding through watching
-same_watching id another = same_filled WATCHING.now refl _ _ _
+same_watching id another caller other = same_filled WATCHING.now refl _ _ _
 
-same_linking : (id another : ℕ) → SameMarkup (linking id) (linking another)
+same_linking : (id another : ℕ) (caller other : List ℕ)
+    → SameMarkup (linking id caller) (linking another other)
 unfolding linking through
-same_linking id another = same_filled LINKING.now refl _ _ _
+same_linking id another caller other = same_filled LINKING.now refl _ _ _
 
-same_fields : (id another : ℕ) (present now : Option (List ℕ)) (levels others : List (Named Level))
+same_fields : (id another : ℕ) (caller other : List ℕ) (present now : Option (List ℕ))
+    (levels others : List (Named Level))
     (modifies may sets can : Bool) → levels_told present levels ≡ levels_told now others
     → modifies ≡ may → sets ≡ can
-    → SameMarkup (field_forms id present levels modifies sets)
-    (field_forms another now others may can)
-same_fields id another present now levels others modifies may sets can same modify set =
-    same_both (same_when modifies may _ _ modify (same_level id another present now levels others
-    same))
-    (same_both (same_when sets can _ _ set (same_watching id another))
-    (same_when modifies may _ _ modify (same_linking id another)))
+    → SameMarkup (field_forms id caller present levels modifies sets)
+    (field_forms another other now others may can)
+same_fields id another caller other present now levels others modifies may sets can same modify
+    set =
+    same_both (same_when modifies may _ _ modify (same_level id another caller other present now
+    levels others same))
+    (same_both (same_when sets can _ _ set (same_watching id another caller other))
+    (same_when modifies may _ _ modify (same_linking id another caller other)))
 
 same_panel : (caller other : List ℕ) (settings rules : Settings) (dossier file : Dossier)
     → is_open caller dossier.shown ≡ is_open other file.shown
@@ -69,11 +75,11 @@ same_panel caller other settings rules dossier file opened many same =
     (may_change_owner rules file.shown other) _ _ (ap (λ told. told.owns) same)
     (same_owner row.id line.id caller other row.owner line.owner))
     (same_both (same_when (may_give settings dossier.shown caller) (may_give rules file.shown other)
-    _ _ (ap (λ told. told.gives) same) (same_give row.id line.id))
+    _ _ (ap (λ told. told.gives) same) (same_give row.id line.id caller other))
     (same_owners caller other settings rules dossier.shown file.shown (ap (λ told. told.owners)
     same))))
-    (same_both (same_fields row.id line.id row.level line.level (levels_of settings) (levels_of
-    rules) (may_modify settings dossier.shown caller) (may_modify rules file.shown other)
+    (same_both (same_fields row.id line.id caller other row.level line.level (levels_of settings)
+    (levels_of rules) (may_modify settings dossier.shown caller) (may_modify rules file.shown other)
     (may_set_persons settings dossier.shown caller) (may_set_persons rules file.shown other)
     (ap (λ told. told.levels) same) (ap (λ told. told.modifies) same) (ap (λ told. told.sets) same))
     (same_both (same_people caller other dossier.shown file.shown many (ap (λ told. told.people)

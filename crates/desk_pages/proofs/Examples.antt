@@ -13,15 +13,19 @@ use Rattle.page_core.specs.Template.{filled_from}
 use Rattle.desk_pages.specs.Ask.{usual_told}
 use Rattle.desk_pages.specs.Chips.{chip, chip_beside}
 use Rattle.desk_pages.specs.Lists.{link_row}
+use Rattle.desk_pages.specs.Owner.{owner_form}
 use Rattle.desk_pages.specs.Paging.{first_of, last_of, paging, paging_told, ways}
-use Rattle.desk_pages.specs.Pieces.{choice, is_filled}
+use Rattle.desk_pages.specs.Pieces.{choice, is_filled, quote}
 use Rattle.desk_pages.specs.Pills.{chosen_of}
 use Rattle.desk_pages.specs.Refused.{crumb, to_request}
 use Rattle.desk_pages.specs.Rows.{row_told}
 use Rattle.desk_pages.specs.Search.{chosen_in}
+use Rattle.desk_pages.specs.SignIn.{kept}
 use Rattle.desk_pages.specs.Sought.{heading_of, is_told, place_of, title_of, told}
+use Rattle.desk_pages.specs.Unsent.{other_heading, other_note, said_of}
 use Rattle.desk_pages.specs.Workload.{late_told, most}
 use Rattle.desk_pages.specs.declared.frame.Place.TheVariants as at
+use Rattle.desk_pages.specs.declared.unsent.Unsent.TheVariants.{OtherPerson}
 
 choice_that_tries_to_be_markup :
     page_bytes (choice true (codes "a<b")) ≡ codes "<option selected>a&lt;b</option>\n"
@@ -33,7 +37,7 @@ unfolding choice filled_from
 choice_that_is_not_chosen = refl
 
 link_without_a_button :
-    page_bytes (link_row false 3 (codes "MemberOf") 12) ≡ codes "<a href=\"/desk/requests/12\">12</a> "
+    page_bytes (link_row false 3 (codes "ann") (codes "MemberOf") 12) ≡ codes "<a href=\"/desk/requests/12\">12</a> "
 unfolding digits filled_from link_row
 link_without_a_button = refl
 
@@ -48,6 +52,30 @@ way_back_to_a_request :
     ≡ codes "<p><a class=\"button\" href=\"/desk/requests/3\">Back to request 3</a></p>\n"
 unfolding digits filled_from to_request
 way_back_to_a_request = refl
+
+form_of_a_caller_who_may_take_it :
+    page_bytes (owner_form 3 (codes "ann") None)
+    ≡ codes "<form method=\"post\" action=\"/desk/requests/3/take\"><input type=\"hidden\" name=\"me\" "
+    ++ codes "value=\"ann\"><button>Take it</button></form>\n"
+unfolding digits filled_from owner_form
+form_of_a_caller_who_may_take_it = refl
+
+form_of_another_person :
+    page_bytes (said_of (OtherPerson (codes "bob")) (codes "ann"))
+    ≡ codes "<h1>This form was another person" ++ quote ++ codes "s</h1>\n<p class=\"alert\">"
+    ++ codes "You are signed in as ann now. This form was bob" ++ quote
+    ++ codes "s: nothing was sent.</p>\n"
+unfolding filled_from other_heading other_note
+form_of_another_person = refl
+
+text_that_comes_along :
+    page_bytes (kept [] (codes "ann") (codes "a\"b") [])
+    ≡ codes "<input type=\"hidden\" name=\"subject\" value=\"\">\n"
+    ++ codes "<input type=\"hidden\" name=\"requestors\" value=\"ann\">\n"
+    ++ codes "<input type=\"hidden\" name=\"text\" value=\"a&quot;b\">\n"
+    ++ codes "<input type=\"hidden\" name=\"status\" value=\"\">\n"
+unfolding filled_from
+text_that_comes_along = refl
 
 nothing_is_filled : is_filled {X = ℕ} [] ≡ false
 nothing_is_filled = refl

@@ -62,10 +62,11 @@ same_choices names others many =
     same_count (choice false) (choice false) (λ name other. same_choice false false name other refl)
     names others many
 
-same_opening : (lifecycles others levels more : List (List ℕ)) → length lifecycles ≡ length others
-    → length levels ≡ length more → SameMarkup (opening lifecycles levels) (opening others more)
+same_opening : (caller person : List ℕ) (lifecycles others levels more : List (List ℕ))
+    → length lifecycles ≡ length others → length levels ≡ length more
+    → SameMarkup (opening caller lifecycles levels) (opening person others more)
 unfolding opening through
-same_opening lifecycles others levels more first second =
+same_opening caller person lifecycles others levels more first second =
     same_both (same_filled OPENING_TOP.now refl _ _ _)
     (same_both (same_choices lifecycles others first)
     (same_both (same_filled OPENING_LEVELS.now refl _ _ _)
@@ -86,5 +87,5 @@ home_same caller other moment later own owned asked sought loads others free uno
     (same_both (same_queues loads others (ap (λ told. told.late) same))
     (same_both (same_section _ _ _ _ caller other moment later free unowned (ap (λ told.
     told.free) same))
-    (same_both (same_opening lifecycles cycles levels more (ap (λ told. told.lifecycles) same)
+    (same_both (same_opening caller other lifecycles cycles levels more (ap (λ told. told.lifecycles) same)
     (ap (λ told. told.levels) same)) (same_bottom moment later)))))

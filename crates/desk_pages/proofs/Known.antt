@@ -52,14 +52,15 @@ same_own moment later settings rules dossier file same =
     (local_at (zone_of rules line) (Some line.created)) (ap (λ told. told.filed_here) same))
     (same_filled FILED_END.now refl _ _ _))))
 
-pub same_facts : (buttons now : Bool) (id another moment later : ℕ) (settings rules : Settings)
-    (dossier file : Dossier) → buttons ≡ now
+pub same_facts : (buttons now : Bool) (id another : ℕ) (caller person : List ℕ) (moment later : ℕ)
+    (settings rules : Settings) (dossier file : Dossier) → buttons ≡ now
     → facts_told moment settings dossier ≡ facts_told later rules file
-    → SameMarkup (facts buttons id moment settings dossier) (facts now another later rules file)
+    → SameMarkup (facts buttons id caller moment settings dossier)
+    (facts now another person later rules file)
 unfolding through
-same_facts buttons now id another moment later settings rules dossier file button same =
+same_facts buttons now id another caller person moment later settings rules dossier file button same =
     same_both (same_own moment later settings rules dossier file same)
-    (same_both (same_roles buttons now id another dossier.shown file.shown button
+    (same_both (same_roles buttons now id another caller person dossier.shown file.shown button
     (ap (λ told. told.many) same))
-    (same_both (same_links buttons now id another dossier.shown file.shown button
+    (same_both (same_links buttons now id another caller person dossier.shown file.shown button
     (ap (λ told. told.many) same)) (same_filled FACTS_END.now refl _ _ _)))

@@ -10,6 +10,7 @@ pub mod Known
 pub mod Linked
 pub mod Listed
 pub mod Loads
+pub mod NotSent
 pub mod Notices
 pub mod Offers
 pub mod Persons

@@ -10,40 +10,45 @@ use Rattle.desk_pages.specs.declared.markup.lists.TheConstants.{LINK_ROW, LIST_E
 use Rattle.desk_pages.specs.declared.markup.lists.TheConstants.{PERSON_ROW}
 use Rattle.desk_pages.proofs.Tables.{filled_alike}
 
-same_person : (buttons now : Bool) (id another : ℕ) (role post : List ℕ) → buttons ≡ now
+same_person : (buttons now : Bool) (id another : ℕ) (caller person role post : List ℕ) → buttons ≡ now
     → (name other : List ℕ)
-    → SameMarkup (person_row buttons id role name) (person_row now another post other)
+    → SameMarkup (person_row buttons id caller role name)
+    (person_row now another person post other)
 unfolding person_row through
-same_person buttons now id another role post same name other =
+same_person buttons now id another caller person role post same name other =
     same_flags PERSON_ROW.now refl _ _ _ _ (ap (λ flag. flag ∷ []) same)
 
-same_persons : (headed known buttons now : Bool) (id another : ℕ) (role post heading title : List ℕ)
-    (names others : List (List ℕ)) → headed ≡ known → buttons ≡ now → length names ≡ length others
-    → SameMarkup (persons headed buttons id role heading names)
-    (persons known now another post title others)
+same_persons : (headed known buttons now : Bool) (id another : ℕ)
+    (caller person role post heading title : List ℕ) (names others : List (List ℕ)) → headed ≡ known → buttons ≡ now → length names ≡ length others
+    → SameMarkup (persons headed buttons id caller role heading names)
+    (persons known now another person post title others)
 unfolding persons through
-same_persons headed known buttons now id another role post heading title names others head button
-    many =
+same_persons headed known buttons now id another caller person role post heading title names
+    others head button many =
     same_both (same_flags LIST_TOP.now refl _ _ _ _ (ap (λ flag. flag ∷ []) head))
-    (same_both (same_count (person_row buttons id role) (person_row now another post)
-    (same_person buttons now id another role post button) names others many)
+    (same_both (same_count (person_row buttons id caller role) (person_row now another person post)
+    (same_person buttons now id another caller person role post button) names others many)
     (same_flags LIST_END.now refl _ _ _ _ (ap (λ flag. flag ∷ []) head)))
 
-same_link : (buttons now : Bool) (id another : ℕ) (link kind : List ℕ) → buttons ≡ now
-    → (n m : ℕ) → SameMarkup (link_row buttons id link n) (link_row now another kind m)
+same_link : (buttons now : Bool) (id another : ℕ) (caller person link kind : List ℕ)
+    → buttons ≡ now
+    → (n m : ℕ) → SameMarkup (link_row buttons id caller link n)
+    (link_row now another person kind m)
 unfolding link_row through
-same_link buttons now id another link kind same n m =
+same_link buttons now id another caller person link kind same n m =
     same_flags LINK_ROW.now refl _ _ _ _ (ap (λ flag. flag ∷ []) same)
 
-same_others : (buttons now : Bool) (id another : ℕ) (link heading : List ℕ) (ns ms : List ℕ)
+same_others : (buttons now : Bool) (id another : ℕ) (caller person link heading : List ℕ)
+    (ns ms : List ℕ)
     → buttons ≡ now → length ns ≡ length ms
-    → SameMarkup (others buttons id link heading ns) (others now another link heading ms)
+    → SameMarkup (others buttons id caller link heading ns)
+    (others now another person link heading ms)
 unfolding others through
-same_others buttons now id another link heading ns ms button many =
+same_others buttons now id another caller person link heading ns ms button many =
     same_both (same_flags LIST_TOP.now refl _ _ _ _ (ap (λ flag. flag ∷ []) (filled_alike ns ms
     many)))
-    (same_both (same_count (link_row buttons id link) (link_row now another link)
-    (same_link buttons now id another link link button) ns ms many)
+    (same_both (same_count (link_row buttons id caller link) (link_row now another person link)
+    (same_link buttons now id another caller person link link button) ns ms many)
     (same_flags LIST_END.now refl _ _ _ _ (ap (λ flag. flag ∷ []) (filled_alike ns ms many))))
 
 -- as many in each list
@@ -72,38 +77,39 @@ as_many_in shown other same =
       referred_to_by = cc;
     }
 
-pub same_roles : (buttons now : Bool) (id another : ℕ) (shown other : Shown) → buttons ≡ now
+pub same_roles : (buttons now : Bool) (id another : ℕ) (caller person : List ℕ) (shown other : Shown) → buttons ≡ now
     → many_told shown ≡ many_told other
-    → SameMarkup (roles buttons id shown) (roles now another other)
-same_roles buttons now id another shown other button same =
+    → SameMarkup (roles buttons id caller shown) (roles now another person other)
+same_roles buttons now id another caller person shown other button same =
     let many = as_many_in shown other same in
-    same_both (same_persons true true buttons now id another _ _ _ _ shown.requestors
+    same_both (same_persons true true buttons now id another caller person _ _ _ _ shown.requestors
     other.requestors
     refl button many.requestors)
-    (same_both (same_persons _ _ buttons now id another _ _ _ _ shown.cc other.cc
+    (same_both (same_persons _ _ buttons now id another caller person _ _ _ _ shown.cc other.cc
     (filled_alike shown.cc other.cc many.cc) button many.cc)
-    (same_persons _ _ buttons now id another _ _ _ _ shown.admin_cc other.admin_cc
+    (same_persons _ _ buttons now id another caller person _ _ _ _ shown.admin_cc other.admin_cc
     (filled_alike shown.admin_cc other.admin_cc many.admin_cc) button many.admin_cc))
 
-pub same_links : (buttons now : Bool) (id another : ℕ) (shown other : Shown) → buttons ≡ now
+pub same_links : (buttons now : Bool) (id another : ℕ) (caller person : List ℕ) (shown other : Shown) → buttons ≡ now
     → many_told shown ≡ many_told other
-    → SameMarkup (links_told buttons id shown.links) (links_told now another other.links)
-same_links buttons now id another shown other button same =
+    → SameMarkup (links_told buttons id caller shown.links)
+    (links_told now another person other.links)
+same_links buttons now id another caller person shown other button same =
     let many = as_many_in shown other same in
     same_both
     (same_both
-    (same_others buttons now id another _ _ shown.links.depends_on other.links.depends_on button
+    (same_others buttons now id another caller person _ _ shown.links.depends_on other.links.depends_on button
     many.depends_on)
-    (same_others buttons now id another _ _ shown.links.depended_on_by other.links.depended_on_by
+    (same_others buttons now id another caller person _ _ shown.links.depended_on_by other.links.depended_on_by
     button many.depended_on_by))
     (same_both
     (same_both
-    (same_others buttons now id another _ _ shown.links.member_of other.links.member_of button
+    (same_others buttons now id another caller person _ _ shown.links.member_of other.links.member_of button
     many.member_of)
-    (same_others buttons now id another _ _ shown.links.has_member other.links.has_member button
+    (same_others buttons now id another caller person _ _ shown.links.has_member other.links.has_member button
     many.has_member))
     (same_both
-    (same_others buttons now id another _ _ shown.links.refers_to other.links.refers_to button
+    (same_others buttons now id another caller person _ _ shown.links.refers_to other.links.refers_to button
     many.refers_to)
-    (same_others buttons now id another _ _ shown.links.referred_to_by other.links.referred_to_by
+    (same_others buttons now id another caller person _ _ shown.links.referred_to_by other.links.referred_to_by
     button many.referred_to_by)))

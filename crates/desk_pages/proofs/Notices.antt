@@ -4,9 +4,9 @@ use Rattle.page_core.specs.Markup.{SameMarkup}
 use Rattle.page_core.specs.Template.{through}
 use Rattle.page_core.proofs.Same.{same_both, same_filled}
 use Rattle.desk_pages.specs.Fault.{fault, fault_page}
-use Rattle.desk_pages.specs.SignIn.{sign_in_page}
+use Rattle.desk_pages.specs.SignIn.{kept_page, sign_in_page}
 use Rattle.desk_pages.specs.declared.markup.fault.TheConstants.{FAULT}
-use Rattle.desk_pages.specs.declared.markup.sign_in.TheConstants.{SIGN_IN}
+use Rattle.desk_pages.specs.declared.markup.sign_in.TheConstants.{KEPT, SIGN_IN, SIGN_IN_END}
 use Rattle.desk_pages.proofs.Frames.{same_bare_bottom, same_bare_top}
 
 pub fault_same : (heading another sentence words code name : List ℕ)
@@ -21,4 +21,16 @@ pub sign_in_same : (next other : List ℕ) (refused elsewhere : Bool)
 unfolding through
 sign_in_same next other refused elsewhere =
     same_both (same_bare_top (codes "Sign in") (codes "Sign in"))
-    (same_both (same_filled SIGN_IN.now refl _ _ _) same_bare_bottom)
+    (same_both (same_filled SIGN_IN.now refl _ _ _)
+    (same_both (same_filled SIGN_IN_END.now refl _ _ _) same_bare_bottom))
+
+pub kept_same : (next other subject line requestors persons text words status chosen : List ℕ)
+    (refused : Bool)
+    → SameMarkup (kept_page next subject requestors text status refused)
+    (kept_page other line persons words chosen refused)
+unfolding through
+kept_same next other subject line requestors persons text words status chosen refused =
+    same_both (same_bare_top (codes "Sign in") (codes "Sign in"))
+    (same_both (same_filled SIGN_IN.now refl _ _ _)
+    (same_both (same_filled KEPT.now refl _ _ _)
+    (same_both (same_filled SIGN_IN_END.now refl _ _ _) same_bare_bottom)))

@@ -61,11 +61,12 @@ same_closings lifecycle other may can (x ∷ xs) (y ∷ ys) same =
     same_both (same_offer lifecycle other may can x y head)
     (same_folded lifecycle other may can xs ys tail)
 
-same_form : (id another : ℕ) (lifecycle other : Parts) (may can : List ℕ → Bool)
+same_form : (id another : ℕ) (caller person : List ℕ) (lifecycle other : Parts) (may can : List ℕ → Bool)
     → offers_told lifecycle may ≡ offers_told other can
-    → SameMarkup (move_form id lifecycle may) (move_form another other can)
+    → SameMarkup (move_form id caller lifecycle may)
+    (move_form another person other can)
 unfolding move_form through
-same_form id another lifecycle other may can same =
+same_form id another caller person lifecycle other may can same =
     let first : map may lifecycle.initial ≡ map can other.initial = cc in
     let second : map may lifecycle.active ≡ map can other.active = cc in
     let third : map may lifecycle.inactive ≡ map can other.inactive = cc in
@@ -82,15 +83,15 @@ pub same_moves : (id another : ℕ) (settings rules : Settings) (shown file : Sh
 same_moves id another settings rules shown file caller person None None same = same_none
 same_moves id another settings rules shown file caller person None (Some other) same =
     let can = may_go rules file person other in
-    same_if false (leads_on other can) [] (offers_told other can) [] (move_form another other can)
+    same_if false (leads_on other can) [] (offers_told other can) [] (move_form another person other can)
     same (λ told. absurd (cc))
 same_moves id another settings rules shown file caller person (Some lifecycle) None same =
     let may = may_go settings shown caller lifecycle in
     same_if (leads_on lifecycle may) false (offers_told lifecycle may) []
-    (move_form id lifecycle may) [] same (λ told. absurd (cc))
+    (move_form id caller lifecycle may) [] same (λ told. absurd (cc))
 same_moves id another settings rules shown file caller person (Some lifecycle) (Some other) same =
     let may = may_go settings shown caller lifecycle in
     let can = may_go rules file person other in
     same_if (leads_on lifecycle may) (leads_on other can) (offers_told lifecycle may)
-    (offers_told other can) (move_form id lifecycle may) (move_form another other can) same
-    (same_form id another lifecycle other may can)
+    (offers_told other can) (move_form id caller lifecycle may) (move_form another person other can) same
+    (same_form id another caller person lifecycle other may can)

@@ -55,25 +55,27 @@ same_owners caller other settings rules shown another many =
     (same_filled OWNERS_END.now refl _ _ _))
 
 -- whoever owns it, the form for its owner is read alike
-one_of : (mine : Bool) (id : ℕ) (owner : List ℕ)
-    → Shows (if mine then filled UNTAKE.now (decimal id ∷ []) [] else filled STEAL.now (decimal id
-    ∷ owner ∷ []) [])
+one_of : (mine : Bool) (id : ℕ) (caller owner : List ℕ)
+    → Shows (if mine then filled UNTAKE.now (decimal id ∷ caller ∷ []) []
+    else filled STEAL.now (decimal id ∷ caller ∷ owner ∷ []) [])
     (markup_in TAKE.now [])
 unfolding filled_from markup_in through
-one_of true id owner = template_shows UNTAKE.now (decimal id ∷ []) [] refl
-one_of false id owner = template_shows STEAL.now (decimal id ∷ owner ∷ []) [] refl
+one_of true id caller owner = template_shows UNTAKE.now (decimal id ∷ caller ∷ []) [] refl
+one_of false id caller owner =
+    template_shows STEAL.now (decimal id ∷ caller ∷ owner ∷ []) [] refl
 
 form_shows : (id : ℕ) (caller : List ℕ) (owner : Option (List ℕ))
     → Shows (owner_form id caller owner) (markup_in TAKE.now [])
 unfolding owner_form through
-form_shows id caller None = template_shows TAKE.now (decimal id ∷ []) [] refl
-form_shows id caller (Some owner) = one_of (bytes_eq owner caller) id owner
+form_shows id caller None = template_shows TAKE.now (decimal id ∷ caller ∷ []) [] refl
+form_shows id caller (Some owner) = one_of (bytes_eq owner caller) id caller owner
 
 pub same_owner : (id another : ℕ) (caller other : List ℕ) (owner lord : Option (List ℕ))
     → SameMarkup (owner_form id caller owner) (owner_form another other lord)
 same_owner id another caller other owner lord =
     same_shown (form_shows id caller owner) (form_shows another other lord)
 
-pub same_give : (id another : ℕ) → SameMarkup (give_form id) (give_form another)
+pub same_give : (id another : ℕ) (caller other : List ℕ)
+    → SameMarkup (give_form id caller) (give_form another other)
 unfolding give_form through
-same_give id another = same_filled GIVE.now refl _ _ _
+same_give id another caller other = same_filled GIVE.now refl _ _ _

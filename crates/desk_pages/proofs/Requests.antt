@@ -25,21 +25,24 @@ same_request_top : (row line : RequestRow) → SameMarkup (request_top row) (req
 unfolding request_top through
 same_request_top row line = same_filled REQUEST_TOP.now refl _ _ _
 
-same_commenting : (id another : ℕ) (replies now : Bool) → replies ≡ now
-    → SameMarkup (commenting id replies) (commenting another now)
+same_commenting : (id another : ℕ) (caller person : List ℕ) (replies now : Bool) → replies ≡ now
+    → SameMarkup (commenting id caller replies) (commenting another person now)
 unfolding commenting through
-same_commenting id another replies now same =
+same_commenting id another caller person replies now same =
     same_both (same_flags COMMENT_TOP.now refl _ _ _ _ (ap (λ flag. not flag ∷ flag ∷ []) same))
-    (same_both (same_comment id another [] []) (same_filled COMMENT_END.now refl _ _ _))
+    (same_both (same_comment id another caller person [] []) (same_filled COMMENT_END.now refl _ _ _))
 
-same_writing : (id another : ℕ) (status other : Option (List ℕ)) (replies now comments too : Bool)
+same_writing : (id another : ℕ) (caller person : List ℕ) (status other : Option (List ℕ)) (replies now comments too : Bool)
     → is_some status ≡ is_some other → replies ≡ now → comments ≡ too
-    → SameMarkup (writing id status replies comments) (writing another other now too)
+    → SameMarkup (writing id caller status replies comments)
+    (writing another person other now too)
 unfolding writing through
-same_writing id another status other replies now comments too same reply comment =
+same_writing id another caller person status other replies now comments too same reply comment =
     same_both (same_filled REPLY_TOP.now refl _ _ _)
-    (same_both (same_when replies now _ _ reply (same_reply id another [] [] status other false same))
-    (same_both (same_when comments too _ _ comment (same_commenting id another replies now reply))
+    (same_both (same_when replies now _ _ reply (same_reply id another caller person [] [] status
+    other false same))
+    (same_both (same_when comments too _ _ comment (same_commenting id another caller person
+    replies now reply))
     (same_flags WRITING_END.now refl _ _ _ _
     (let none : not replies && not comments ≡ not now && not too = cc in
     ap (λ flag. flag ∷ []) none))))
@@ -59,10 +62,10 @@ request_same caller other moment later settings rules dossier file same =
     (same_both
     (same_both (same_request_top row line)
     (same_both (same_facts (may_modify settings dossier.shown caller)
-    (may_modify rules file.shown other) row.id line.id moment later settings rules dossier file
+    (may_modify rules file.shown other) row.id line.id caller other moment later settings rules dossier file
     (ap (λ told. told.modifies) same) (ap (λ told. told.facts) same))
     (same_history dossier.entries file.entries (ap (λ told. told.kinds) same))))
-    (same_both (same_writing row.id line.id (closing_for caller settings dossier)
+    (same_both (same_writing row.id line.id caller other (closing_for caller settings dossier)
     (closing_for other rules file) (may_reply settings dossier.shown caller)
     (may_reply rules file.shown other) (may_comment settings dossier.shown caller)
     (may_comment rules file.shown other) (ap (λ told. told.closing) same)

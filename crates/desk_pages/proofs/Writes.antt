@@ -15,15 +15,16 @@ same_move_too None (Some other) ticked same = never same
 same_move_too (Some status) None ticked same = nowhere same
 same_move_too (Some status) (Some other) ticked same = same_filled MOVE_TOO.now refl _ _ _
 
-pub same_reply : (id another : ℕ) (text words : List ℕ) (status other : Option (List ℕ))
+pub same_reply : (id another : ℕ) (caller person text words : List ℕ) (status other : Option (List ℕ))
     (ticked : Bool) → is_some status ≡ is_some other
-    → SameMarkup (reply id text status ticked) (reply another words other ticked)
+    → SameMarkup (reply id caller text status ticked)
+    (reply another person words other ticked)
 unfolding reply through
-same_reply id another text words status other ticked same =
+same_reply id another caller person text words status other ticked same =
     same_both (same_filled REPLY.now refl _ _ _)
     (same_both (same_move_too status other ticked same) (same_filled REPLY_END.now refl _ _ _))
 
-pub same_comment : (id another : ℕ) (text words : List ℕ)
-    → SameMarkup (comment id text) (comment another words)
+pub same_comment : (id another : ℕ) (caller person text words : List ℕ)
+    → SameMarkup (comment id caller text) (comment another person words)
 unfolding comment through
-same_comment id another text words = same_filled COMMENT.now refl _ _ _
+same_comment id another caller person text words = same_filled COMMENT.now refl _ _ _

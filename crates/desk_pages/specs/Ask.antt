@@ -15,7 +15,7 @@ status_row usual status = choice (bytes_eq status usual) status
 -- statuses
 abbrev pub fields : List ℕ → List ℕ → List ℕ → List ℕ → List ℕ → Bool → List Part
 fields queue caller subject text requestors any =
-    filled ASK.now (queue ∷ subject ∷ text ∷ requestors ∷ caller ∷ []) (any ∷ [])
+    filled ASK.now (queue ∷ caller ∷ subject ∷ text ∷ requestors ∷ caller ∷ []) (any ∷ [])
 
 -- the form; no status is asked for where there are none
 abbrev pub ask : List ℕ → List ℕ → List ℕ → List ℕ → List ℕ → List ℕ → List (List ℕ) → List Part

@@ -25,7 +25,7 @@ is_open caller shown = not (is_among shown.requestors caller)
 abbrev pub owner_forms : ℕ → List ℕ → Settings → Shown → List Part
 owner_forms id caller settings shown =
     parts_if (may_change_owner settings shown caller) (owner_form id caller shown.row.owner)
-    ++ (parts_if (may_give settings shown caller) (give_form id) ++ owners caller settings shown)
+    ++ (parts_if (may_give settings shown caller) (give_form id caller) ++ owners caller settings shown)
 
 -- the part for a caller
 unfoldable pub panel : List ℕ → Settings → Dossier → List Part
@@ -34,7 +34,7 @@ panel caller settings dossier =
     filled CHANGE_TOP.now [] (is_open caller dossier.shown ∷ [])
     ++ (moves id settings dossier.shown caller (lifecycle_named settings dossier.queue.lifecycle)
     ++ (owner_forms id caller settings dossier.shown
-    ++ (field_forms id dossier.shown.row.level (levels_of settings)
+    ++ (field_forms id caller dossier.shown.row.level (levels_of settings)
     (may_modify settings dossier.shown caller) (may_set_persons settings dossier.shown caller)
     ++ (people caller dossier.shown ++ filled CHANGE_END.now [] []))))
 

@@ -7,7 +7,7 @@ use Rattle.settings_core.specs.declared.named.Named.{Named}
 use Rattle.page_core.specs.Page.{Part}
 use Rattle.page_core.specs.Template.{filled}
 use Rattle.desk_pages.specs.Pieces.{choice, parts_if}
-use Rattle.desk_pages.specs.declared.frame.TheConstants.{DIGITS}
+use Rattle.desk_pages.specs.declared.fields.TheConstants.{DIGITS}
 use Rattle.desk_pages.specs.declared.markup.fields.TheConstants.{LEVEL_END, LEVEL_TOP}
 use Rattle.desk_pages.specs.declared.markup.fields.TheConstants.{LINKING, WATCHING}
 
@@ -20,23 +20,24 @@ is_present (Some level) name = bytes_eq level name
 abbrev pub level_row : Option (List ℕ) → Named Level → List Part
 level_row present level = choice (is_present present level.name) level.name
 
-unfoldable pub level_form : ℕ → Option (List ℕ) → List (Named Level) → List Part
-level_form id present levels =
-    filled LEVEL_TOP.now (decimal id ∷ []) []
+unfoldable pub level_form : ℕ → List ℕ → Option (List ℕ) → List (Named Level) → List Part
+level_form id caller present levels =
+    filled LEVEL_TOP.now (decimal id ∷ caller ∷ []) []
     ++ (flat_map (level_row present) levels ++ filled LEVEL_END.now [] [])
 
-unfoldable pub watching : ℕ → List Part
-watching id = filled WATCHING.now (decimal id ∷ decimal id ∷ []) []
+unfoldable pub watching : ℕ → List ℕ → List Part
+watching id caller = filled WATCHING.now (decimal id ∷ caller ∷ decimal id ∷ []) []
 
-unfoldable pub linking : ℕ → List Part
-linking id = filled LINKING.now (decimal id ∷ DIGITS.now ∷ decimal id ∷ []) []
+unfoldable pub linking : ℕ → List ℕ → List Part
+linking id caller =
+    filled LINKING.now (decimal id ∷ caller ∷ DIGITS.now ∷ decimal id ∷ []) []
 
--- the forms for the level and for links, where it may be changed, and for watchers, where they may be
+-- a caller's forms for the level and for links, where it may be changed, and for watchers, where they may be
 -- set
-abbrev pub field_forms : ℕ → Option (List ℕ) → List (Named Level) → Bool → Bool → List Part
-field_forms id present levels modifies sets =
-    parts_if modifies (level_form id present levels)
-    ++ (parts_if sets (watching id) ++ parts_if modifies (linking id))
+abbrev pub field_forms : ℕ → List ℕ → Option (List ℕ) → List (Named Level) → Bool → Bool → List Part
+field_forms id caller present levels modifies sets =
+    parts_if modifies (level_form id caller present levels)
+    ++ (parts_if sets (watching id caller) ++ parts_if modifies (linking id caller))
 
 -- what the markup tells: how many levels there are, and which is the present one
 abbrev pub levels_told : Option (List ℕ) → List (Named Level) → List Bool

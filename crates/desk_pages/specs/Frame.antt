@@ -5,7 +5,6 @@ use Rattle.page_core.specs.Template.{filled}
 use Rattle.page_core.specs.Values.{clock, day}
 use Rattle.desk_pages.specs.declared.frame.Place.{Place}
 use Rattle.desk_pages.specs.declared.frame.Place.TheVariants as place
-use Rattle.desk_pages.specs.declared.frame.TheConstants.{DIGITS}
 use Rattle.desk_pages.specs.declared.markup.frame.TheConstants.{BARE_BOTTOM, BARE_TOP, BOTTOM, TOP}
 
 -- whether a page is the one that a link of each page leads to
@@ -28,7 +27,7 @@ is_workload _ = false
 -- what stands above the content
 unfoldable pub top : List ℕ → Place → List ℕ → List Part
 top title at caller =
-    filled TOP.now (title ∷ DIGITS.now ∷ caller ∷ [])
+    filled TOP.now (title ∷ caller ∷ [])
     (is_home at ∷ is_find at ∷ is_late at ∷ is_workload at ∷ [])
 
 -- what stands below it, for a page that was made at this moment

@@ -48,9 +48,9 @@ queues loads =
 abbrev pub choices : List (List ℕ) → List Part
 choices names = flat_map (choice false) names
 
-unfoldable pub opening : List (List ℕ) → List (List ℕ) → List Part
-opening lifecycles levels =
-    filled OPENING_TOP.now [] []
+unfoldable pub opening : List ℕ → List (List ℕ) → List (List ℕ) → List Part
+opening caller lifecycles levels =
+    filled OPENING_TOP.now (caller ∷ []) []
     ++ (choices lifecycles
     ++ (filled OPENING_LEVELS.now [] [] ++ (choices levels ++ filled OPENING_END.now [] [])))
 
@@ -63,7 +63,7 @@ home_page caller moment own asked loads free lifecycles levels =
     ++ (lists caller moment own asked
     ++ (queues loads
     ++ (section FREE.now FREE_QUERY.now caller moment free
-    ++ (opening lifecycles levels ++ bottom moment))))
+    ++ (opening caller lifecycles levels ++ bottom moment))))
 
 -- what the markup of a list tells: whether there is any, and what is told of its rows
 abbrev pub section_told : ℕ → Findings → Option (List (ℕ × Bool × Bool))

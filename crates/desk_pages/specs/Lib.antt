@@ -25,6 +25,7 @@ pub mod Rights
 pub mod Rows
 pub mod Search
 pub mod SignIn
-pub mod SearchPart
+pub mod Sought
+pub mod Unsent
 pub mod Workload
 pub mod Write

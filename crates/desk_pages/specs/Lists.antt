@@ -10,56 +10,56 @@ use Rattle.desk_pages.specs.Pieces.{is_filled}
 use Rattle.desk_pages.specs.declared.markup.lists.TheConstants.{LINK_ROW, LIST_END, LIST_TOP}
 use Rattle.desk_pages.specs.declared.markup.lists.TheConstants.{PERSON_ROW}
 
--- a person in a role on a request, with a button or without
-unfoldable pub person_row : Bool → ℕ → List ℕ → List ℕ → List Part
-person_row buttons id role name =
-    filled PERSON_ROW.now (name ∷ decimal id ∷ role ∷ name ∷ name ∷ []) (buttons ∷ [])
+-- a person in a role on a request, with a button for a caller or without
+unfoldable pub person_row : Bool → ℕ → List ℕ → List ℕ → List ℕ → List Part
+person_row buttons id caller role name =
+    filled PERSON_ROW.now (name ∷ decimal id ∷ caller ∷ role ∷ name ∷ name ∷ []) (buttons ∷ [])
 
 -- persons in a role, under a heading or without
-unfoldable pub persons : Bool → Bool → ℕ → List ℕ → List ℕ → List (List ℕ) → List Part
-persons headed buttons id role heading names =
+unfoldable pub persons : Bool → Bool → ℕ → List ℕ → List ℕ → List ℕ → List (List ℕ) → List Part
+persons headed buttons id caller role heading names =
     filled LIST_TOP.now (heading ∷ []) (headed ∷ [])
-    ++ (flat_map (person_row buttons id role) names ++ filled LIST_END.now [] (headed ∷ []))
+    ++ (flat_map (person_row buttons id caller role) names ++ filled LIST_END.now [] (headed ∷ []))
 
 -- another request in a kind of links
-unfoldable pub link_row : Bool → ℕ → List ℕ → ℕ → List Part
-link_row buttons id link n =
+unfoldable pub link_row : Bool → ℕ → List ℕ → List ℕ → ℕ → List Part
+link_row buttons id caller link n =
     filled LINK_ROW.now
-    (decimal n ∷ decimal n ∷ decimal id ∷ link ∷ decimal n ∷ decimal n ∷ []) (buttons ∷ [])
+    (decimal n ∷ decimal n ∷ decimal id ∷ caller ∷ link ∷ decimal n ∷ decimal n ∷ []) (buttons ∷ [])
 
 -- requests in a kind of links, under a heading if there are any
-unfoldable pub others : Bool → ℕ → List ℕ → List ℕ → List ℕ → List Part
-others buttons id link heading ns =
+unfoldable pub others : Bool → ℕ → List ℕ → List ℕ → List ℕ → List ℕ → List Part
+others buttons id caller link heading ns =
     filled LIST_TOP.now (heading ∷ []) (is_filled ns ∷ [])
-    ++ (flat_map (link_row buttons id link) ns ++ filled LIST_END.now [] (is_filled ns ∷ []))
+    ++ (flat_map (link_row buttons id caller link) ns ++ filled LIST_END.now [] (is_filled ns ∷ []))
 
 -- the persons of a request in their roles; there is a heading for requestors even if there are none
-abbrev pub roles : Bool → ℕ → Shown → List Part
-roles buttons id shown =
-    persons true buttons id (codes "requestor") (codes "Requestors") shown.requestors
-    ++ (persons (is_filled shown.cc) buttons id (codes "cc") (codes "Cc") shown.cc
-    ++ persons (is_filled shown.admin_cc) buttons id (codes "admincc") (codes "AdminCc")
+abbrev pub roles : Bool → ℕ → List ℕ → Shown → List Part
+roles buttons id caller shown =
+    persons true buttons id caller (codes "requestor") (codes "Requestors") shown.requestors
+    ++ (persons (is_filled shown.cc) buttons id caller (codes "cc") (codes "Cc") shown.cc
+    ++ persons (is_filled shown.admin_cc) buttons id caller (codes "admincc") (codes "AdminCc")
     shown.admin_cc)
 
 -- the requests that it is linked with, in each of the six kinds
-abbrev pub dependencies : Bool → ℕ → Links → List Part
-dependencies buttons id links =
-    others buttons id (codes "DependsOn") (codes "Depends on") links.depends_on
-    ++ others buttons id (codes "DependedOnBy") (codes "Depended on by") links.depended_on_by
+abbrev pub dependencies : Bool → ℕ → List ℕ → Links → List Part
+dependencies buttons id caller links =
+    others buttons id caller (codes "DependsOn") (codes "Depends on") links.depends_on
+    ++ others buttons id caller (codes "DependedOnBy") (codes "Depended on by") links.depended_on_by
 
-abbrev pub members : Bool → ℕ → Links → List Part
-members buttons id links =
-    others buttons id (codes "MemberOf") (codes "Member of") links.member_of
-    ++ others buttons id (codes "HasMember") (codes "Has members") links.has_member
+abbrev pub members : Bool → ℕ → List ℕ → Links → List Part
+members buttons id caller links =
+    others buttons id caller (codes "MemberOf") (codes "Member of") links.member_of
+    ++ others buttons id caller (codes "HasMember") (codes "Has members") links.has_member
 
-abbrev pub references : Bool → ℕ → Links → List Part
-references buttons id links =
-    others buttons id (codes "RefersTo") (codes "Refers to") links.refers_to
-    ++ others buttons id (codes "ReferredToBy") (codes "Referred to by") links.referred_to_by
+abbrev pub references : Bool → ℕ → List ℕ → Links → List Part
+references buttons id caller links =
+    others buttons id caller (codes "RefersTo") (codes "Refers to") links.refers_to
+    ++ others buttons id caller (codes "ReferredToBy") (codes "Referred to by") links.referred_to_by
 
-abbrev pub links_told : Bool → ℕ → Links → List Part
-links_told buttons id links =
-    dependencies buttons id links ++ (members buttons id links ++ references buttons id links)
+abbrev pub links_told : Bool → ℕ → List ℕ → Links → List Part
+links_told buttons id caller links =
+    dependencies buttons id caller links ++ (members buttons id caller links ++ references buttons id caller links)
 
 -- what the markup tells of them: how many there are in each role, and in each kind of links
 abbrev pub many_told : Shown → List ℕ

@@ -50,9 +50,9 @@ leads_on lifecycle may =
     has_offer may lifecycle.initial
     || (has_offer may lifecycle.active || has_offer may lifecycle.inactive)
 
-unfoldable pub move_form : ℕ → Parts → (List ℕ → Bool) → List Part
-move_form id lifecycle may =
-    filled MOVES_TOP.now (decimal id ∷ []) []
+unfoldable pub move_form : ℕ → List ℕ → Parts → (List ℕ → Bool) → List Part
+move_form id caller lifecycle may =
+    filled MOVES_TOP.now (decimal id ∷ caller ∷ []) []
     ++ (offers lifecycle may lifecycle.initial
     ++ (offers lifecycle may lifecycle.active
     ++ (closings lifecycle may lifecycle.inactive ++ filled MOVES_END.now [] [])))
@@ -68,7 +68,7 @@ abbrev pub moves : ℕ → Settings → Shown → List ℕ → Option Parts → 
 moves id settings shown caller None = []
 moves id settings shown caller (Some lifecycle) =
     parts_if (leads_on lifecycle (may_go settings shown caller lifecycle))
-    (move_form id lifecycle (may_go settings shown caller lifecycle))
+    (move_form id caller lifecycle (may_go settings shown caller lifecycle))
 
 -- the first inactive status, where the lifecycle lets a request move to it from this one
 abbrev pub closing_among : Parts → List ℕ → List (List ℕ) → Option (List ℕ)

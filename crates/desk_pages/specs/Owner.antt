@@ -8,11 +8,11 @@ use Rattle.desk_pages.specs.declared.markup.owner.TheConstants.{GIVE, STEAL, TAK
 -- the one that makes sense for the caller: where nobody owns it, where the caller does, and where
 -- another person does
 unfoldable pub owner_form : ℕ → List ℕ → Option (List ℕ) → List Part
-owner_form id caller None = filled TAKE.now (decimal id ∷ []) []
+owner_form id caller None = filled TAKE.now (decimal id ∷ caller ∷ []) []
 owner_form id caller (Some owner) =
-    if bytes_eq owner caller then filled UNTAKE.now (decimal id ∷ []) []
-    else filled STEAL.now (decimal id ∷ owner ∷ []) []
+    if bytes_eq owner caller then filled UNTAKE.now (decimal id ∷ caller ∷ []) []
+    else filled STEAL.now (decimal id ∷ caller ∷ owner ∷ []) []
 
 -- the form by which anybody is given it
-unfoldable pub give_form : ℕ → List Part
-give_form id = filled GIVE.now (decimal id ∷ []) []
+unfoldable pub give_form : ℕ → List ℕ → List Part
+give_form id caller = filled GIVE.now (decimal id ∷ caller ∷ []) []

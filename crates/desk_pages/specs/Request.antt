@@ -40,30 +40,30 @@ closing_for caller settings dossier =
     else None
 
 -- the form for a comment, which is folded beside a reply
-unfoldable pub commenting : ℕ → Bool → List Part
-commenting id replies =
+unfoldable pub commenting : ℕ → List ℕ → Bool → List Part
+commenting id caller replies =
     filled COMMENT_TOP.now [] (not replies ∷ replies ∷ [])
-    ++ (comment id [] ++ filled COMMENT_END.now [] [])
+    ++ (comment id caller [] ++ filled COMMENT_END.now [] [])
 
--- what may be written to the request of this number: a reply, a comment, or nothing
-unfoldable pub writing : ℕ → Option (List ℕ) → Bool → Bool → List Part
-writing id status replies comments =
+-- what a caller may write to the request of this number: a reply, a comment, or nothing
+unfoldable pub writing : ℕ → List ℕ → Option (List ℕ) → Bool → Bool → List Part
+writing id caller status replies comments =
     filled REPLY_TOP.now [] []
-    ++ (parts_if replies (reply id [] status false)
-    ++ (parts_if comments (commenting id replies)
+    ++ (parts_if replies (reply id caller [] status false)
+    ++ (parts_if comments (commenting id caller replies)
     ++ filled WRITING_END.now [] ((not replies && not comments) ∷ [])))
 
 -- what is told of the request of this number, to a caller at a moment
 abbrev pub request_shown : ℕ → List ℕ → ℕ → Settings → Dossier → List Part
 request_shown id caller moment settings dossier =
     request_top dossier.shown.row
-    ++ (facts (may_modify settings dossier.shown caller) id moment settings dossier
+    ++ (facts (may_modify settings dossier.shown caller) id caller moment settings dossier
     ++ history dossier.entries)
 
 -- what may be done with it
 abbrev pub request_acts : ℕ → List ℕ → Settings → Dossier → List Part
 request_acts id caller settings dossier =
-    writing id (closing_for caller settings dossier) (may_reply settings dossier.shown caller)
+    writing id caller (closing_for caller settings dossier) (may_reply settings dossier.shown caller)
     (may_comment settings dossier.shown caller)
     ++ change caller settings dossier
 

@@ -9,12 +9,12 @@ unfoldable pub move_too : Option (List ℕ) → Bool → List Part
 move_too None ticked = []
 move_too (Some status) ticked = filled MOVE_TOO.now (status ∷ status ∷ []) (ticked ∷ [])
 
--- the form for a reply, with a text, and with a status that is offered
-unfoldable pub reply : ℕ → List ℕ → Option (List ℕ) → Bool → List Part
-reply id text status ticked =
-    filled REPLY.now (decimal id ∷ text ∷ []) []
+-- a caller's form for a reply, with a text, and with a status that is offered
+unfoldable pub reply : ℕ → List ℕ → List ℕ → Option (List ℕ) → Bool → List Part
+reply id caller text status ticked =
+    filled REPLY.now (decimal id ∷ caller ∷ text ∷ []) []
     ++ (move_too status ticked ++ filled REPLY_END.now [] [])
 
--- the form for a comment, with a text
-unfoldable pub comment : ℕ → List ℕ → List Part
-comment id text = filled COMMENT.now (decimal id ∷ text ∷ []) []
+-- a caller's form for a comment, with a text
+unfoldable pub comment : ℕ → List ℕ → List ℕ → List Part
+comment id caller text = filled COMMENT.now (decimal id ∷ caller ∷ text ∷ []) []

@@ -73,6 +73,7 @@ fn put_fields<'t>(
 {
     let values = [
         Value::Text(queue),
+        Value::Text(caller),
         Value::Text(typed.subject),
         Value::Text(typed.text),
         Value::Text(typed.requestors),

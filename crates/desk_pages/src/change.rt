@@ -85,7 +85,15 @@ fn put_panel(
     fill(out, CHANGE_TOP, &[], &[is_open(caller, shown)])?;
     put_moves(out, id, settings, shown, caller, lifecycle)?;
     put_owner_forms(alloc, out, id, caller, settings, shown)?;
-    put_field_forms(out, id, &shown.row.level, settings.levels(), modifies, sets)?;
+    put_field_forms(
+        out,
+        id,
+        caller,
+        &shown.row.level,
+        settings.levels(),
+        modifies,
+        sets,
+    )?;
     put_people(out, caller, shown)?;
     fill(out, CHANGE_END, &[], &[])
 }
@@ -139,10 +147,10 @@ fn put_giving(
     shown: &Shown,
 ) -> Result<(), AllocError>
     ensures { OnOk result (out.new.items ≡ out.old.items ++ page_bytes
-        (parts_if (rights.may_give settings.now shown.now caller.now) (give_form id))) }
+        (parts_if (rights.may_give settings.now shown.now caller.now) (give_form id caller.now))) }
 {
     if may_give(settings, shown, caller) {
-        put_give_form(out, id)
+        put_give_form(out, id, caller)
     } else {
         Ok(())
     }

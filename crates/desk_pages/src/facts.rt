@@ -15,23 +15,24 @@ use page_core::{Value, fill};
 use settings_core::Settings;
 use std::alloc::AllocError;
 
-/// Puts what is told of the request of this number at a moment. `buttons` is whether persons can be
+/// Puts what is told of the request of this number to a caller at a moment. `buttons` is whether persons can be
 /// taken out, and links away.
 pub(crate) fn put_facts(
     out: &mut Vec<u8>,
     buttons: bool,
     id: u32,
+    caller: &str,
     moment: Minute,
     settings: &Settings,
     dossier: &Dossier,
 ) -> Result<(), AllocError>
     ensures { OnOk result (out.new.items ≡ out.old.items
-        ++ page_bytes (form.facts buttons id moment settings.now dossier.now)) }
+        ++ page_bytes (form.facts buttons id caller.now moment settings.now dossier.now)) }
 {
     let shown = &dossier.shown;
     put_own_facts(out, moment, settings, dossier)?;
-    put_roles(out, buttons, id, shown)?;
-    put_links(out, buttons, id, &shown.links)?;
+    put_roles(out, buttons, id, caller, shown)?;
+    put_links(out, buttons, id, caller, &shown.links)?;
     fill(out, FACTS_END, &[], &[])
 }
 

@@ -8,9 +8,6 @@ use hours_core::Minute;
 use page_core::{Value, fill};
 use std::alloc::AllocError;
 
-/// What a field for the number of a request takes, as browsers are told it.
-pub(crate) const DIGITS: &str = "[0-9]+";
-
 /// Which of the pages that each page leads to it is.
 #[derive(Clone, Copy)]
 pub enum Place {
@@ -36,7 +33,7 @@ pub(crate) fn put_top<'t>(
     fill(
         out,
         TOP,
-        &[Value::Text(title), Value::Text(DIGITS), Value::Text(caller)],
+        &[Value::Text(title), Value::Text(caller)],
         &[is_home(at), is_find(at), is_late(at), is_workload(at)],
     )
 }

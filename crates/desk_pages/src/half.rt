@@ -31,7 +31,7 @@ pub fn filed_page(
     put_crumb(&mut out, id)?;
     put_refusal_after(&mut out, refusal)?;
     fill(&mut out, FILED_NOTE, &[Value::Number(id)], &[])?;
-    put_reply_form(&mut out, id, text, None, false)?;
+    put_reply_form(&mut out, id, caller, text, None, false)?;
     put_to_request(&mut out, id)?;
     put_bottom(&mut out, moment)?;
     Ok(out)

@@ -39,7 +39,7 @@ pub fn home_page(
     put_lists(&mut out, caller, moment, own, asked)?;
     put_queues(&mut out, loads)?;
     put_section(&mut out, FREE, FREE_QUERY, caller, moment, free)?;
-    put_opening(&mut out, lifecycles, levels)?;
+    put_opening(&mut out, caller, lifecycles, levels)?;
     put_bottom(&mut out, moment)?;
     Ok(out)
 }
@@ -134,13 +134,18 @@ fn put_queue_row(out: &mut Vec<u8>, load: &QueueLoad) -> Result<(), AllocError>
     fill(out, QUEUE_ROW, &values, &[load.late != 0])
 }
 
-/// Puts the form for another queue.
+/// Puts the form for another queue, for a caller.
 #[tactic(auto, unfolding(crate::specs::Home::opening))]
-fn put_opening(out: &mut Vec<u8>, lifecycles: &[Text], levels: &[Text]) -> Result<(), AllocError>
+fn put_opening(
+    out: &mut Vec<u8>,
+    caller: &str,
+    lifecycles: &[Text],
+    levels: &[Text],
+) -> Result<(), AllocError>
     ensures { OnOk result (out.new.items
-        ≡ out.old.items ++ page_bytes (form.opening lifecycles.now levels.now)) }
+        ≡ out.old.items ++ page_bytes (form.opening caller.now lifecycles.now levels.now)) }
 {
-    fill(out, OPENING_TOP, &[], &[])?;
+    fill(out, OPENING_TOP, &[Value::Text(caller)], &[])?;
     put_choices(out, lifecycles)?;
     fill(out, OPENING_LEVELS, &[], &[])?;
     put_choices(out, levels)?;

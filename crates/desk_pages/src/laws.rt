@@ -18,19 +18,22 @@ ghost use Rattle.desk_pages.specs.Find.{find_fault_page, find_page, found_told};
 ghost use Rattle.desk_pages.specs.Home.{home_page, home_told};
 ghost use Rattle.desk_pages.specs.New.{new_page};
 ghost use Rattle.desk_pages.specs.RefusalPage.{
-  ask_refusal_page,
-  comment_refusal_page,
   filed_page,
   is_found,
   refusal_page,
   replied_page,
-  reply_refusal_page,
-  request_refusal_page,
+  unsent_ask_page,
+  unsent_change_page,
+  unsent_comment_page,
+  unsent_page,
+  unsent_reply_page,
 };
 ghost use Rattle.desk_pages.specs.Refused.{is_denied};
 ghost use Rattle.desk_pages.specs.Request.{request_page, request_told};
 ghost use Rattle.desk_pages.specs.Search.{chosen_in};
-ghost use Rattle.desk_pages.specs.SignIn.{sign_in_page};
+ghost use Rattle.desk_pages.specs.SignIn.{kept_page, sign_in_page};
+ghost use Rattle.desk_pages.specs.Unsent.{why_told};
+ghost use Rattle.desk_pages.specs.declared.unsent.Unsent.{Unsent};
 ghost use Rattle.desk_pages.specs.Workload.{late_told, workload_page};
 
 /// The page of a search tells by its markup which parts are sought, where that is told; what was
@@ -71,11 +74,15 @@ pub fn home_page_law()
         (home_page other later owned sought others unowned cycles more) }
 {}
 
-/// The page on which one signs in tells by its markup whether a token was refused, and whether it
-/// stands at another place.
+/// The page on which one signs in tells by its markup whether a token was refused, whether it stands at
+/// another place, and whether a form comes along; and no more of what was typed into that.
 pub fn sign_in_page_law()
-    ensures { (next other : List ℕ) (refused elsewhere : Bool)
+    ensures plain { (next other : List ℕ) (refused elsewhere : Bool)
         → SameMarkup (sign_in_page next refused elsewhere) (sign_in_page other refused elsewhere) }
+    ensures kept { (next other subject line requestors persons text words status chosen : List ℕ)
+        (refused : Bool)
+        → SameMarkup (kept_page next subject requestors text status refused)
+        (kept_page other line persons words chosen refused) }
 {}
 
 /// The page of a fault has the same markup whatever is wrong.
@@ -93,33 +100,12 @@ pub fn new_page_law()
         (new_page another other later first names) }
 {}
 
-/// The page of a refusal tells by its markup whether a right is lacking, and of a new request whether
-/// its queue is there; and no more of what was typed than the form that it was typed into, and
-/// whether a status was chosen. So do the pages that say that of two commands one was done.
+/// The page of a refusal tells by its markup whether a right is lacking. So do the pages that say that
+/// of two commands one was done.
 pub fn refusal_page_law()
     ensures plain { (why other : Refusal) (caller another : List ℕ) (moment later : ℕ)
         → is_denied why ≡ is_denied other
         → SameMarkup (refusal_page why caller moment) (refusal_page other another later) }
-    ensures request { (why other : Refusal) (caller another : List ℕ) (moment later id n : ℕ)
-        → is_denied why ≡ is_denied other
-        → SameMarkup (request_refusal_page why caller moment id)
-        (request_refusal_page other another later n) }
-    ensures reply { (why other : Refusal) (caller another : List ℕ) (moment later id n : ℕ)
-        (text words : List ℕ) (status chosen : Option (List ℕ))
-        → is_denied why ≡ is_denied other → is_some status ≡ is_some chosen
-        → SameMarkup (reply_refusal_page why caller moment id text status)
-        (reply_refusal_page other another later n words chosen) }
-    ensures comment { (why other : Refusal) (caller another : List ℕ) (moment later id n : ℕ)
-        (text words : List ℕ) → is_denied why ≡ is_denied other
-        → SameMarkup (comment_refusal_page why caller moment id text)
-        (comment_refusal_page other another later n words) }
-    ensures ask { (why other : Refusal) (caller another : List ℕ) (moment later : ℕ)
-        (queue place subject line text words requestors persons : List ℕ)
-        (status chosen : Option (List ℕ))
-        → is_denied why ≡ is_denied other → is_found why ≡ is_found other
-        → is_some status ≡ is_some chosen
-        → SameMarkup (ask_refusal_page why caller moment queue subject text requestors status)
-        (ask_refusal_page other another later place line words persons chosen) }
     ensures filed { (why other : Refusal) (caller another : List ℕ) (moment later id n : ℕ)
         (text words : List ℕ) → is_denied why ≡ is_denied other
         → SameMarkup (filed_page why caller moment id text)
@@ -128,6 +114,35 @@ pub fn refusal_page_law()
         (status chosen : List ℕ) → is_denied why ≡ is_denied other
         → SameMarkup (replied_page why caller moment id status)
         (replied_page other another later n chosen) }
+{}
+
+/// The page of a form that wasn't sent tells by its markup whether the desk refused it, and then
+/// whether a right is lacking, and of a new request whether its queue is there; and no more of what was
+/// typed than the form that it was typed into, and whether a status was chosen.
+pub fn unsent_page_law()
+    ensures plain { (why other : Unsent) (caller another : List ℕ) (moment later : ℕ)
+        → why_told why ≡ why_told other
+        → SameMarkup (unsent_page why caller moment) (unsent_page other another later) }
+    ensures change { (why other : Unsent) (caller another : List ℕ) (moment later id n : ℕ)
+        → why_told why ≡ why_told other
+        → SameMarkup (unsent_change_page why caller moment id)
+        (unsent_change_page other another later n) }
+    ensures reply { (why other : Unsent) (caller another : List ℕ) (moment later id n : ℕ)
+        (text words : List ℕ) (status chosen : Option (List ℕ))
+        → why_told why ≡ why_told other → is_some status ≡ is_some chosen
+        → SameMarkup (unsent_reply_page why caller moment id text status)
+        (unsent_reply_page other another later n words chosen) }
+    ensures comment { (why other : Unsent) (caller another : List ℕ) (moment later id n : ℕ)
+        (text words : List ℕ) → why_told why ≡ why_told other
+        → SameMarkup (unsent_comment_page why caller moment id text)
+        (unsent_comment_page other another later n words) }
+    ensures ask { (why other : Unsent) (caller another : List ℕ) (moment later : ℕ)
+        (queue place subject line text words requestors persons : List ℕ)
+        (status chosen : Option (List ℕ))
+        → why_told why ≡ why_told other → is_found why ≡ is_found other
+        → is_some status ≡ is_some chosen
+        → SameMarkup (unsent_ask_page why caller moment queue subject text requestors status)
+        (unsent_ask_page other another later place line words persons chosen) }
 {}
 
 /// The page of a request tells by its markup whether the request is due, whether it is late, whether

@@ -36,6 +36,7 @@ mod rows;
 mod search;
 mod sign_in;
 mod sought;
+mod unsent;
 mod workload;
 mod write;
 
@@ -47,12 +48,14 @@ pub use half::{filed_page, replied_page};
 pub use home::home_page;
 pub use laws::{
     fault_page_law, find_page_law, home_page_law, new_page_law, refusal_page_law, request_page_law,
-    sign_in_page_law, workload_page_law,
+    sign_in_page_law, unsent_page_law, workload_page_law,
 };
 pub use new::new_page;
 pub use refusal::{
-    ask_refusal_page, comment_refusal_page, refusal_page, reply_refusal_page, request_refusal_page,
+    refusal_page, unsent_ask_page, unsent_change_page, unsent_comment_page, unsent_page,
+    unsent_reply_page,
 };
 pub use request::request_page;
-pub use sign_in::sign_in_page;
+pub use sign_in::{kept_page, sign_in_page};
+pub use unsent::Unsent;
 pub use workload::workload_page;

@@ -17,18 +17,30 @@ pub(crate) fn put_roles(
     out: &mut Vec<u8>,
     buttons: bool,
     id: u32,
+    caller: &str,
     shown: &Shown,
 ) -> Result<(), AllocError>
     ensures { OnOk result (out.new.items
-        ≡ out.old.items ++ page_bytes (form.roles buttons id shown.now)) }
+        ≡ out.old.items ++ page_bytes (form.roles buttons id caller.now shown.now)) }
 {
     let asking = shown.requestors.as_slice();
     let cc = shown.cc.as_slice();
     let admin_cc = shown.admin_cc.as_slice();
-    put_persons(out, true, buttons, id, "requestor", "Requestors", asking)?;
-    put_persons(out, !cc.is_empty(), buttons, id, "cc", "Cc", cc)?;
+    put_persons(
+        out,
+        true,
+        buttons,
+        id,
+        caller,
+        "requestor",
+        "Requestors",
+        asking,
+    )?;
+    put_persons(out, !cc.is_empty(), buttons, id, caller, "cc", "Cc", cc)?;
     let any = !admin_cc.is_empty();
-    put_persons(out, any, buttons, id, "admincc", "AdminCc", admin_cc)
+    put_persons(
+        out, any, buttons, id, caller, "admincc", "AdminCc", admin_cc,
+    )
 }
 
 /// Puts persons in a role, under a heading where that is shown.
@@ -38,15 +50,16 @@ fn put_persons(
     headed: bool,
     buttons: bool,
     id: u32,
+    caller: &str,
     role: &str,
     heading: &str,
     names: &[Text],
 ) -> Result<(), AllocError>
     ensures { OnOk result (out.new.items ≡ out.old.items
-        ++ page_bytes (form.persons headed buttons id role.now heading.now names.now)) }
+        ++ page_bytes (form.persons headed buttons id caller.now role.now heading.now names.now)) }
 {
     fill(out, LIST_TOP, &[Value::Text(heading)], &[headed])?;
-    put_person_rows(out, buttons, id, role, names)?;
+    put_person_rows(out, buttons, id, caller, role, names)?;
     fill(out, LIST_END, &[], &[headed])
 }
 
@@ -54,14 +67,15 @@ fn put_person_rows(
     out: &mut Vec<u8>,
     buttons: bool,
     id: u32,
+    caller: &str,
     role: &str,
     names: &[Text],
 ) -> Result<(), AllocError>
     ensures { OnOk result (out.new.items ≡ out.old.items
-        ++ page_bytes (flat_map (form.person_row buttons id role.now) names.now)) }
+        ++ page_bytes (flat_map (form.person_row buttons id caller.now role.now) names.now)) }
 {
     for name in names {
-        put_person_row(out, buttons, id, role, name.as_str())?;
+        put_person_row(out, buttons, id, caller, role, name.as_str())?;
     }
     Ok(())
 }
@@ -71,15 +85,17 @@ fn put_person_row<'t>(
     out: &mut Vec<u8>,
     buttons: bool,
     id: u32,
+    caller: &'t str,
     role: &'t str,
     name: &'t str,
 ) -> Result<(), AllocError>
     ensures { OnOk result (out.new.items ≡ out.old.items
-        ++ page_bytes (form.person_row buttons id role.now name.now)) }
+        ++ page_bytes (form.person_row buttons id caller.now role.now name.now)) }
 {
     let values = [
         Value::Text(name),
         Value::Number(id),
+        Value::Text(caller),
         Value::Text(role),
         Value::Text(name),
         Value::Text(name),
@@ -93,54 +109,79 @@ pub(crate) fn put_links(
     out: &mut Vec<u8>,
     buttons: bool,
     id: u32,
+    caller: &str,
     links: &Links,
 ) -> Result<(), AllocError>
     ensures { OnOk result (out.new.items
-        ≡ out.old.items ++ page_bytes (form.links_told buttons id links.now)) }
+        ≡ out.old.items ++ page_bytes (form.links_told buttons id caller.now links.now)) }
 {
-    put_dependencies(out, buttons, id, links)?;
-    put_members(out, buttons, id, links)?;
-    put_references(out, buttons, id, links)
+    put_dependencies(out, buttons, id, caller, links)?;
+    put_members(out, buttons, id, caller, links)?;
+    put_references(out, buttons, id, caller, links)
 }
 
 fn put_dependencies(
     out: &mut Vec<u8>,
     buttons: bool,
     id: u32,
+    caller: &str,
     links: &Links,
 ) -> Result<(), AllocError>
     ensures { OnOk result (out.new.items
-        ≡ out.old.items ++ page_bytes (form.dependencies buttons id links.now)) }
+        ≡ out.old.items ++ page_bytes (form.dependencies buttons id caller.now links.now)) }
 {
     let on = &links.depends_on;
     let by = &links.depended_on_by;
-    put_others(out, buttons, id, "DependsOn", "Depends on", on)?;
-    put_others(out, buttons, id, "DependedOnBy", "Depended on by", by)
+    put_others(out, buttons, id, caller, "DependsOn", "Depends on", on)?;
+    put_others(
+        out,
+        buttons,
+        id,
+        caller,
+        "DependedOnBy",
+        "Depended on by",
+        by,
+    )
 }
 
-fn put_members(out: &mut Vec<u8>, buttons: bool, id: u32, links: &Links) -> Result<(), AllocError>
+fn put_members(
+    out: &mut Vec<u8>,
+    buttons: bool,
+    id: u32,
+    caller: &str,
+    links: &Links,
+) -> Result<(), AllocError>
     ensures { OnOk result (out.new.items
-        ≡ out.old.items ++ page_bytes (form.members buttons id links.now)) }
+        ≡ out.old.items ++ page_bytes (form.members buttons id caller.now links.now)) }
 {
     let of = &links.member_of;
     let has = &links.has_member;
-    put_others(out, buttons, id, "MemberOf", "Member of", of)?;
-    put_others(out, buttons, id, "HasMember", "Has members", has)
+    put_others(out, buttons, id, caller, "MemberOf", "Member of", of)?;
+    put_others(out, buttons, id, caller, "HasMember", "Has members", has)
 }
 
 fn put_references(
     out: &mut Vec<u8>,
     buttons: bool,
     id: u32,
+    caller: &str,
     links: &Links,
 ) -> Result<(), AllocError>
     ensures { OnOk result (out.new.items
-        ≡ out.old.items ++ page_bytes (form.references buttons id links.now)) }
+        ≡ out.old.items ++ page_bytes (form.references buttons id caller.now links.now)) }
 {
     let to = &links.refers_to;
     let by = &links.referred_to_by;
-    put_others(out, buttons, id, "RefersTo", "Refers to", to)?;
-    put_others(out, buttons, id, "ReferredToBy", "Referred to by", by)
+    put_others(out, buttons, id, caller, "RefersTo", "Refers to", to)?;
+    put_others(
+        out,
+        buttons,
+        id,
+        caller,
+        "ReferredToBy",
+        "Referred to by",
+        by,
+    )
 }
 
 /// Puts requests in a kind of links, under a heading if there are any.
@@ -149,17 +190,18 @@ fn put_others(
     out: &mut Vec<u8>,
     buttons: bool,
     id: u32,
+    caller: &str,
     link: &str,
     heading: &str,
     others: &Sequence<u32>,
 ) -> Result<(), AllocError>
     ensures { OnOk result (out.new.items ≡ out.old.items
-        ++ page_bytes (form.others buttons id link.now heading.now others.now)) }
+        ++ page_bytes (form.others buttons id caller.now link.now heading.now others.now)) }
 {
     let others = others.as_slice();
     let any = !others.is_empty();
     fill(out, LIST_TOP, &[Value::Text(heading)], &[any])?;
-    put_link_rows(out, buttons, id, link, others)?;
+    put_link_rows(out, buttons, id, caller, link, others)?;
     fill(out, LIST_END, &[], &[any])
 }
 
@@ -167,33 +209,36 @@ fn put_link_rows(
     out: &mut Vec<u8>,
     buttons: bool,
     id: u32,
+    caller: &str,
     link: &str,
     others: &[u32],
 ) -> Result<(), AllocError>
     ensures { OnOk result (out.new.items ≡ out.old.items
-        ++ page_bytes (flat_map (form.link_row buttons id link.now) others.now)) }
+        ++ page_bytes (flat_map (form.link_row buttons id caller.now link.now) others.now)) }
 {
     for other in others {
-        put_link_row(out, buttons, id, link, *other)?;
+        put_link_row(out, buttons, id, caller, link, *other)?;
     }
     Ok(())
 }
 
 #[tactic(auto, unfolding(crate::specs::Lists::link_row))]
-fn put_link_row(
+fn put_link_row<'t>(
     out: &mut Vec<u8>,
     buttons: bool,
     id: u32,
-    link: &str,
+    caller: &'t str,
+    link: &'t str,
     other: u32,
 ) -> Result<(), AllocError>
     ensures { OnOk result (out.new.items ≡ out.old.items
-        ++ page_bytes (form.link_row buttons id link.now other)) }
+        ++ page_bytes (form.link_row buttons id caller.now link.now other)) }
 {
     let values = [
         Value::Number(other),
         Value::Number(other),
         Value::Number(id),
+        Value::Text(caller),
         Value::Text(link),
         Value::Number(other),
         Value::Number(other),

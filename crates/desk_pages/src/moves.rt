@@ -137,10 +137,15 @@ fn put_move_form(
     lifecycle: &Lifecycle,
 ) -> Result<(), AllocError>
     ensures { OnOk result (out.new.items ≡ out.old.items ++ page_bytes (form.move_form id
-        lifecycle.now (form.may_go settings.now shown.now caller.now lifecycle.now))) }
+        caller.now lifecycle.now (form.may_go settings.now shown.now caller.now lifecycle.now))) }
 {
     let parts = lifecycle.parts();
-    fill(out, MOVES_TOP, &[Value::Number(id)], &[])?;
+    fill(
+        out,
+        MOVES_TOP,
+        &[Value::Number(id), Value::Text(caller)],
+        &[],
+    )?;
     put_offers(
         out,
         settings,

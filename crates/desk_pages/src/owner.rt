@@ -11,22 +11,26 @@ use text_core::Text;
 /// Puts the form that makes sense for the caller: to take a request that nobody owns, to let go of
 /// one's own, or to steal another person's.
 #[tactic(auto, unfolding(crate::specs::Owner::owner_form))]
-pub(crate) fn put_owner_form(
+pub(crate) fn put_owner_form<'t>(
     out: &mut Vec<u8>,
     id: u32,
-    caller: &str,
-    owner: &Option<Text>,
+    caller: &'t str,
+    owner: &'t Option<Text>,
 ) -> Result<(), AllocError>
     ensures { OnOk result (out.new.items
         ≡ out.old.items ++ page_bytes (form.owner_form id caller.now owner.now)) }
 {
     match owner {
-        None => fill(out, TAKE, &[Value::Number(id)], &[]),
+        None => fill(out, TAKE, &[Value::Number(id), Value::Text(caller)], &[]),
         Some(owner) => {
             if owner.as_str() == caller {
-                fill(out, UNTAKE, &[Value::Number(id)], &[])
+                fill(out, UNTAKE, &[Value::Number(id), Value::Text(caller)], &[])
             } else {
-                let values = [Value::Number(id), Value::Text(owner.as_str())];
+                let values = [
+                    Value::Number(id),
+                    Value::Text(caller),
+                    Value::Text(owner.as_str()),
+                ];
                 fill(out, STEAL, &values, &[])
             }
         }
@@ -35,8 +39,9 @@ pub(crate) fn put_owner_form(
 
 /// Puts the form by which anybody is given it.
 #[tactic(auto, unfolding(crate::specs::Owner::give_form))]
-pub(crate) fn put_give_form(out: &mut Vec<u8>, id: u32) -> Result<(), AllocError>
-    ensures { OnOk result (out.new.items ≡ out.old.items ++ page_bytes (form.give_form id)) }
+pub(crate) fn put_give_form(out: &mut Vec<u8>, id: u32, caller: &str) -> Result<(), AllocError>
+    ensures { OnOk result (out.new.items
+        ≡ out.old.items ++ page_bytes (form.give_form id caller.now)) }
 {
-    fill(out, GIVE, &[Value::Number(id)], &[])
+    fill(out, GIVE, &[Value::Number(id), Value::Text(caller)], &[])
 }

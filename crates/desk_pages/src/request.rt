@@ -84,7 +84,7 @@ fn put_told(
     let shown = &dossier.shown;
     let buttons = may_modify(settings, shown, caller);
     put_heading(out, &shown.row)?;
-    put_facts(out, buttons, id, moment, settings, dossier)?;
+    put_facts(out, buttons, id, caller, moment, settings, dossier)?;
     put_history(out, dossier.entries.as_slice())
 }
 
@@ -103,7 +103,7 @@ fn put_acts(
     let replies = may_reply(settings, &dossier.shown, caller);
     let comments = may_comment(settings, &dossier.shown, caller);
     let status = closing_for(caller, settings, dossier);
-    put_writing(out, id, status, replies, comments)?;
+    put_writing(out, id, caller, status, replies, comments)?;
     put_change(alloc, out, caller, settings, dossier)
 }
 
@@ -139,16 +139,17 @@ fn closing_for<'s>(caller: &str, settings: &'s Settings, dossier: &Dossier) -> O
 fn put_writing(
     out: &mut Vec<u8>,
     id: u32,
+    caller: &str,
     status: Option<&str>,
     replies: bool,
     comments: bool,
 ) -> Result<(), AllocError>
     ensures { OnOk result (out.new.items ≡ out.old.items ++ page_bytes
-        (form.writing id (option_map (λ s. s.now) status.entry) replies comments)) }
+        (form.writing id caller.now (option_map (λ s. s.now) status.entry) replies comments)) }
 {
     fill(out, REPLY_TOP, &[], &[])?;
-    put_replying(out, id, status, replies)?;
-    put_commenting(out, id, replies, comments)?;
+    put_replying(out, id, caller, status, replies)?;
+    put_commenting(out, id, caller, replies, comments)?;
     fill(out, WRITING_END, &[], &[!replies && !comments])
 }
 
@@ -156,14 +157,15 @@ fn put_writing(
 fn put_replying(
     out: &mut Vec<u8>,
     id: u32,
+    caller: &str,
     status: Option<&str>,
     replies: bool,
 ) -> Result<(), AllocError>
     ensures { OnOk result (out.new.items ≡ out.old.items ++ page_bytes
-        (parts_if replies (reply id [] (option_map (λ s. s.now) status.entry) false))) }
+        (parts_if replies (reply id caller.now [] (option_map (λ s. s.now) status.entry) false))) }
 {
     if replies {
-        put_reply(out, id, "", status, false)
+        put_reply(out, id, caller, "", status, false)
     } else {
         Ok(())
     }
@@ -174,16 +176,17 @@ fn put_replying(
 fn put_commenting(
     out: &mut Vec<u8>,
     id: u32,
+    caller: &str,
     replies: bool,
     comments: bool,
 ) -> Result<(), AllocError>
     ensures { OnOk result (out.new.items ≡ out.old.items ++ page_bytes
-        (parts_if comments (form.commenting id replies))) }
+        (parts_if comments (form.commenting id caller.now replies))) }
 {
     if !comments {
         return Ok(());
     }
     fill(out, COMMENT_TOP, &[], &[!replies, replies])?;
-    put_comment(out, id, "")?;
+    put_comment(out, id, caller, "")?;
     fill(out, COMMENT_END, &[], &[])
 }

@@ -8,20 +8,22 @@ use crate::markup::write::{COMMENT, MOVE_TOO, REPLY, REPLY_END};
 use page_core::{Value, fill};
 use std::alloc::AllocError;
 
-/// Puts the form for a reply to the request of this number, with a text. Where there is a status,
+/// Puts the form for a reply of a caller to the request of this number, with a text. Where there is a status,
 /// the request can be moved to it as well, which may be ticked.
 #[tactic(auto, unfolding(crate::specs::Write::reply))]
-pub(crate) fn put_reply(
+pub(crate) fn put_reply<'t>(
     out: &mut Vec<u8>,
     id: u32,
-    text: &str,
+    caller: &'t str,
+    text: &'t str,
     status: Option<&str>,
     ticked: bool,
 ) -> Result<(), AllocError>
     ensures { OnOk result (out.new.items ≡ out.old.items ++ page_bytes
-        (form.reply id text.now (option_map (λ s. s.now) status.entry) ticked)) }
+        (form.reply id caller.now text.now (option_map (λ s. s.now) status.entry) ticked)) }
 {
-    fill(out, REPLY, &[Value::Number(id), Value::Text(text)], &[])?;
+    let values = [Value::Number(id), Value::Text(caller), Value::Text(text)];
+    fill(out, REPLY, &values, &[])?;
     put_move_too(out, status, ticked)?;
     fill(out, REPLY_END, &[], &[])
 }
@@ -42,11 +44,17 @@ fn put_move_too(out: &mut Vec<u8>, status: Option<&str>, ticked: bool) -> Result
     }
 }
 
-/// Puts the form for a comment on the request of this number, with a text.
+/// Puts the form for a comment of a caller on the request of this number, with a text.
 #[tactic(auto, unfolding(crate::specs::Write::comment))]
-pub(crate) fn put_comment(out: &mut Vec<u8>, id: u32, text: &str) -> Result<(), AllocError>
+pub(crate) fn put_comment<'t>(
+    out: &mut Vec<u8>,
+    id: u32,
+    caller: &'t str,
+    text: &'t str,
+) -> Result<(), AllocError>
     ensures { OnOk result (out.new.items
-        ≡ out.old.items ++ page_bytes (form.comment id text.now)) }
+        ≡ out.old.items ++ page_bytes (form.comment id caller.now text.now)) }
 {
-    fill(out, COMMENT, &[Value::Number(id), Value::Text(text)], &[])
+    let values = [Value::Number(id), Value::Text(caller), Value::Text(text)];
+    fill(out, COMMENT, &values, &[])
 }

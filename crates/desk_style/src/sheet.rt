@@ -95,7 +95,7 @@ header nav a { padding: .3125rem .625rem; border-radius: .375rem; text-decoratio
 header nav a:hover { background: var(--wash) }
 header nav a[aria-current] { background: var(--wash); font-weight: 650; text-decoration: underline }
 header form { display: flex; align-items: center; gap: .5rem }
-header input { width: 5.5rem }
+header input { width: 12.5rem }
 footer { padding: .75rem 1rem 1.25rem; color: var(--soft); font-size: .8125rem; text-align: center }
 .side { float: inline-end; margin: 0 }
 .crumb { margin: 0 0 .25rem; color: var(--soft); font-size: .875rem }

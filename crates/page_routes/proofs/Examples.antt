@@ -11,16 +11,19 @@ use Rattle.find_form.specs.declared.shown.Start.TheVariants.{First, After, Befor
 use Rattle.session_core.specs.declared.session.Lasts.TheVariants.{Day, Month}
 use Rattle.page_routes.specs.Faults.{name_of, number_of, status_of}
 use Rattle.page_routes.specs.FormArguments.{filled, names_in, needed, others}
-use Rattle.page_routes.specs.Paths.{path_of, reply_path}
-use Rattle.page_routes.specs.Places.{act_named, behind, fixed, is_page_path, method_named, path_in}
+use Rattle.page_routes.specs.Fronts.{behind}
+use Rattle.page_routes.specs.HeadBox.{box_page, leads, unmarked, words_query}
+use Rattle.page_routes.specs.Paths.{form_path, path_of, reply_path}
+use Rattle.page_routes.specs.Places.{act_named, fixed, is_page_path, method_named, path_in}
 use Rattle.page_routes.specs.Places.{queue_page, takes_post}
-use Rattle.page_routes.specs.Visits.{acted, asked_at, asked_by, form_of, going, page_or_home, sent_on}
-use Rattle.page_routes.specs.Visits.{is_search, lasts_of, sent_in, signed_by}
+use Rattle.page_routes.specs.Visits.{acted, asked_at, asked_by, form_of, page_or_home, sent_on}
+use Rattle.page_routes.specs.Visits.{is_search, lasts_of, next_from, sent_in, signed_by}
 use Rattle.page_routes.specs.declared.fault.PageFault.TheVariants.{NoRoute, BadMethod, OtherSite}
 use Rattle.page_routes.specs.declared.fault.PageFault.TheVariants.{BadBody}
+use Rattle.page_routes.specs.declared.next.Next.TheVariants as nexts
 use Rattle.page_routes.specs.declared.page.Page.TheVariants as pages
 use Rattle.page_routes.specs.declared.place.Place.TheVariants as places
-use Rattle.page_routes.specs.declared.visit.SubmittedForm.TheVariants as sends
+use Rattle.page_routes.specs.declared.next.SubmittedForm.TheVariants as sends
 use Rattle.page_routes.specs.declared.visit.PageRequest.TheVariants as visits
 
 -- Faults.antt
@@ -148,17 +151,25 @@ path_of_an_earlier_page :
 unfolding digits
 path_of_an_earlier_page = refl
 
+path_of_a_reply : form_path (sends.Reply 7 [] None) ≡ codes "/desk/requests/7/reply"
+unfolding digits
+path_of_a_reply = refl
+
+path_of_a_new_request :
+    form_path (sends.New (codes "it") [] [] [] None) ≡ codes "/desk/queues/it/new"
+path_of_a_new_request = refl
+
 path_of_the_end_of_a_history : reply_path 7 ≡ codes "/desk/requests/7#reply"
 unfolding digits
 path_of_the_end_of_a_history = refl
 
 -- FormArguments.antt
 
-form_of_a_link : needed forms.Link ≡ codes "kind" ∷ codes "other" ∷ []
+form_of_a_link : needed forms.Link ≡ codes "me" ∷ codes "kind" ∷ codes "other" ∷ []
 form_of_a_link = refl
 
-form_of_taking_has_no_fields : needed forms.Take ≡ []
-form_of_taking_has_no_fields = refl
+form_of_taking_has_one_field : needed forms.Take ≡ codes "me" ∷ []
+form_of_taking_has_one_field = refl
 
 status_beside_a_reply : others forms.Reply ≡ codes "status" ∷ []
 status_beside_a_reply = refl
@@ -189,11 +200,34 @@ page_of_an_address = refl
 place_that_is_no_page : page_or_home (Some places.SignOut) ≡ pages.Home
 place_that_is_no_page = refl
 
-unknown_token : signed_by None true pages.Overdue ≡ visits.NotSignedIn pages.Overdue
+unknown_token :
+    signed_by None None true (nexts.Page pages.Overdue) ≡ visits.NotSignedIn (nexts.Page pages.Overdue)
 unknown_token = refl
 
-known_token : signed_by (Some (codes "ann.1.0a")) true pages.Home ≡ visits.SignedIn (codes "ann.1.0a") true pages.Home
+known_token :
+    signed_by (Some (codes "ann")) (Some (codes "ann.1.0a")) true (nexts.Page pages.Home)
+    ≡ visits.SignedIn (codes "ann.1.0a") true pages.Home
 known_token = refl
+
+known_token_before_a_form :
+    signed_by (Some (codes "ann")) (Some (codes "ann.1.0a")) false
+    (nexts.Form (sends.Comment 7 (codes "Hi")))
+    ≡ visits.Resumed (codes "ann") (codes "ann.1.0a") false (sends.Comment 7 (codes "Hi"))
+known_token_before_a_form = refl
+
+address_of_a_form_with_a_text :
+    next_from (Some (places.Act forms.Comment 7)) (field (codes "text") (codes "Hi") ∷ [])
+    ≡ nexts.Form (sends.Comment 7 (codes "Hi"))
+address_of_a_form_with_a_text = refl
+
+address_of_a_form_without_one :
+    next_from (Some (places.Page (pages.New (codes "it")))) [] ≡ nexts.Page (pages.New (codes "it"))
+address_of_a_form_without_one = refl
+
+address_of_a_press_with_a_text :
+    next_from (Some (places.Act forms.Take 7)) (field (codes "text") (codes "Hi") ∷ [])
+    ≡ nexts.Page (pages.Request 7)
+address_of_a_press_with_a_text = refl
 
 kept_for_a_month : lasts_of true ≡ Month
 kept_for_a_month = refl
@@ -207,14 +241,26 @@ search_is_one = refl
 queue_is_no_search : is_search (pages.Queue (codes "it")) ≡ false
 queue_is_no_search = refl
 
-request_by_its_number : going (field (codes "number") (codes "7") ∷ []) ≡ Ok (visits.Go 7)
+request_by_its_number : leads (Some 7) (codes "q=7") ≡ pages.Request 7
 request_by_its_number = refl
 
-number_with_a_letter : going (field (codes "number") (codes "7a") ∷ []) ≡ Err BadBody
-number_with_a_letter = refl
+number_sign_is_left_out : unmarked (codes "#7") ≡ codes "7"
+number_sign_is_left_out = refl
 
-field_too_many : going (field (codes "number") (codes "7") ∷ field (codes "a") [] ∷ []) ≡ Err BadBody
-field_too_many = refl
+number_without_a_sign_stays : unmarked (codes "7#") ≡ codes "7#"
+number_without_a_sign_stays = refl
+
+words_as_they_were_coded : words_query (Some (codes "paper+j%C3%A4m")) ≡ codes "words=paper+j%C3%A4m"
+words_as_they_were_coded = refl
+
+what_was_typed_stands_behind : behind (codes "q=") (codes "q=jam") ≡ Some (codes "jam")
+what_was_typed_stands_behind = refl
+
+field_that_the_box_has_not : behind (codes "q=") (codes "p=jam") ≡ None
+field_that_the_box_has_not = refl
+
+nothing_typed : box_page [] ≡ pages.Find [] First
+nothing_typed = refl
 
 reply_with_a_status :
     sent_on forms.Reply 7 (field (codes "text") (codes "Hi") ∷ field (codes "status") (codes "open") ∷ [])
@@ -235,21 +281,40 @@ new_request_with_a_status = refl
 other_acts_send_a_change : sent_on forms.Take 7 [] ≡ sends.Change 7
 other_acts_send_a_change = refl
 
-no_command_is_a_bad_body : acted (codes "ann") (sends.Change 7) None ≡ Err BadBody
+no_command_is_a_bad_body : acted (codes "ann") (codes "ann") (sends.Change 7) None ≡ Err BadBody
 no_command_is_a_bad_body = refl
 
 command_of_a_caller :
-    acted (codes "ann") (sends.Change 7) (Some (command.Take 7))
+    acted (codes "ann") (codes "ann") (sends.Change 7) (Some (command.Take 7))
     ≡ Ok (visits.Act (codes "ann") (command.Take 7) (sends.Change 7))
 command_of_a_caller = refl
 
+command_of_another_persons_page :
+    acted (codes "bob") (codes "ann") (sends.Change 7) (Some (command.Take 7))
+    ≡ Ok (visits.OtherPerson (codes "ann") (codes "bob") (sends.Change 7))
+command_of_another_persons_page = refl
+
 taking_by_a_post :
-    asked_at (codes "ann") (places.Act forms.Take 7) []
+    asked_at (codes "ann") (places.Act forms.Take 7) (field (codes "me") (codes "ann") ∷ [])
     ≡ Ok (visits.Act (codes "ann") (command.Take 7) (sends.Change 7))
 taking_by_a_post = refl
 
+taking_of_another_persons_page :
+    asked_at (codes "ann") (places.Act forms.Take 7) (field (codes "me") (codes "bob") ∷ [])
+    ≡ Ok (visits.OtherPerson (codes "ann") (codes "bob") (sends.Change 7))
+taking_of_another_persons_page = refl
+
+taking_of_nobodys_page : asked_at (codes "ann") (places.Act forms.Take 7) [] ≡ Err BadBody
+taking_of_nobodys_page = refl
+
+taking_of_a_page_told_twice :
+    asked_at (codes "ann") (places.Act forms.Take 7)
+    (field (codes "me") (codes "ann") ∷ field (codes "me") (codes "ann") ∷ []) ≡ Err BadBody
+taking_of_a_page_told_twice = refl
+
 taking_with_a_field :
-    asked_at (codes "ann") (places.Act forms.Take 7) (field (codes "a") [] ∷ []) ≡ Err BadBody
+    asked_at (codes "ann") (places.Act forms.Take 7)
+    (field (codes "me") (codes "ann") ∷ field (codes "a") [] ∷ []) ≡ Err BadBody
 taking_with_a_field = refl
 
 post_to_a_page_without_one : asked_at (codes "ann") (places.Page pages.Home) [] ≡ Err (BadMethod false)
@@ -259,8 +324,20 @@ form_of_an_act_stands_at_its_request : form_of (places.Act forms.Take 7) ≡ pag
 form_of_an_act_stands_at_its_request = refl
 
 -- the cookie comes before the body
-nobody_with_a_bad_body : asked_by (places.Act forms.Take 7) None None ≡ Ok (visits.Unknown (pages.Request 7) false)
+nobody_with_a_bad_body :
+    asked_by (places.Act forms.Reply 7) None None
+    ≡ Ok (visits.Unknown (nexts.Page (pages.Request 7)) false)
 nobody_with_a_bad_body = refl
+
+nobody_with_a_text :
+    asked_by (places.Act forms.Reply 7) None (Some (field (codes "text") (codes "Hi") ∷ []))
+    ≡ Ok (visits.Unknown (nexts.Form (sends.Reply 7 (codes "Hi") None)) false)
+nobody_with_a_text = refl
+
+nobody_with_a_press :
+    asked_by (places.Act forms.Take 7) None (Some [])
+    ≡ Ok (visits.Unknown (nexts.Page (pages.Request 7)) false)
+nobody_with_a_press = refl
 
 bad_body_of_a_caller : asked_by (places.Act forms.Take 7) (Some (codes "ann")) None ≡ Err BadBody
 bad_body_of_a_caller = refl

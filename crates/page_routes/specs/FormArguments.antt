@@ -16,20 +16,24 @@ use Rattle.desk_forms.specs.declared.table.CommandForm.TheVariants as forms
 
 -- ---- the fields of each form
 
--- those that it sends
+-- its own that it sends
+abbrev pub own : CommandForm → List (List ℕ)
+own forms.OpenQueue = codes "queue" ∷ codes "lifecycle" ∷ codes "level" ∷ []
+own forms.Create = codes "subject" ∷ codes "requestors" ∷ []
+own forms.SetStatus = codes "status" ∷ []
+own forms.SetLevel = codes "level" ∷ []
+own forms.Give = codes "person" ∷ []
+own forms.Reply = codes "text" ∷ []
+own forms.Comment = codes "text" ∷ []
+own forms.Watch = codes "role" ∷ codes "person" ∷ []
+own forms.Unwatch = codes "role" ∷ codes "person" ∷ []
+own forms.Link = codes "kind" ∷ codes "other" ∷ []
+own forms.Unlink = codes "kind" ∷ codes "other" ∷ []
+own _ = []
+
+-- those that it sends: the person on whose page it stood, and its own
 abbrev pub needed : CommandForm → List (List ℕ)
-needed forms.OpenQueue = codes "queue" ∷ codes "lifecycle" ∷ codes "level" ∷ []
-needed forms.Create = codes "subject" ∷ codes "requestors" ∷ []
-needed forms.SetStatus = codes "status" ∷ []
-needed forms.SetLevel = codes "level" ∷ []
-needed forms.Give = codes "person" ∷ []
-needed forms.Reply = codes "text" ∷ []
-needed forms.Comment = codes "text" ∷ []
-needed forms.Watch = codes "role" ∷ codes "person" ∷ []
-needed forms.Unwatch = codes "role" ∷ codes "person" ∷ []
-needed forms.Link = codes "kind" ∷ codes "other" ∷ []
-needed forms.Unlink = codes "kind" ∷ codes "other" ∷ []
-needed _ = []
+needed form = codes "me" ∷ own form
 
 -- those that it may send: with a new request the first text, and with a reply a status
 abbrev pub others : CommandForm → List (List ℕ)

@@ -1,5 +1,7 @@
 pub mod Faults
 pub mod FormArguments
+pub mod Fronts
+pub mod HeadBox
 pub mod Paths
 pub mod Places
 pub mod Visits

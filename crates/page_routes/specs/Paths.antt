@@ -6,6 +6,8 @@ use Rattle.find_form.specs.declared.shown.Start.TheVariants.{First, After, Befor
 use Rattle.page_routes.specs.declared.page.Page.{Page}
 use Rattle.page_routes.specs.declared.page.Page.TheVariants.{Home, Queue, New, Request, Overdue}
 use Rattle.page_routes.specs.declared.page.Page.TheVariants.{Workload, Find}
+use Rattle.page_routes.specs.declared.next.SubmittedForm.{SubmittedForm}
+use Rattle.page_routes.specs.declared.next.SubmittedForm.TheVariants as sends
 
 -- the fields of a search, from the first that is found on, or from a place on
 abbrev pub find_path : List ℕ → Start → List ℕ
@@ -23,6 +25,18 @@ path_of (Request id) = codes "/desk/requests/" ++ decimal id
 path_of Overdue = codes "/desk/overdue"
 path_of Workload = codes "/desk/workload"
 path_of (Find query start) = find_path query start
+
+-- what is done to a request
+abbrev pub act_path : ℕ → List ℕ → List ℕ
+act_path id act = codes "/desk/requests/" ++ (decimal id ++ act)
+
+-- where a form is filled in once more: where it is sent, if a text is typed into it, and else its page
+abbrev pub form_path : SubmittedForm → List ℕ
+form_path sends.Queue = path_of Home
+form_path (sends.New queue subject requestors text status) = path_of (New queue)
+form_path (sends.Reply id text status) = act_path id (codes "/reply")
+form_path (sends.Comment id text) = act_path id (codes "/comment")
+form_path (sends.Change id) = path_of (Request id)
 
 -- the end of a request's history
 abbrev pub reply_path : ℕ → List ℕ

@@ -1,6 +1,6 @@
 -- The places of the pages, by the bytes of their paths.
 use Rattle.std.specs.Prelude.{ℕ, nat_le, Bool, true, false, ◌&&◌, ◌||◌, if◌then◌else◌}
-use Rattle.std.specs.Prelude.{List, [], take, drop, length, unwrap_or}
+use Rattle.std.specs.Prelude.{List, [], unwrap_or}
 use Rattle.std.specs.List.{list_all}
 use Rattle.std.specs.Prelude.{Option, Some, None, codes}
 use Rattle.std.specs.Option.{option_and_then, option_map, option_or}
@@ -17,6 +17,8 @@ use Rattle.find_core.specs.declared.search.Place as find
 use Rattle.find_form.specs.Address as address
 use Rattle.find_form.specs.declared.shown.Start.{Start}
 use Rattle.find_form.specs.declared.shown.Start.TheVariants.{First, After, Before}
+use Rattle.page_routes.specs.Fronts.{begins, behind}
+use Rattle.page_routes.specs.HeadBox.{box_page}
 use Rattle.page_routes.specs.declared.page.Page.{Page}
 use Rattle.page_routes.specs.declared.page.Page.TheVariants.{Home, Queue, New, Request, Overdue}
 use Rattle.page_routes.specs.declared.page.Page.TheVariants.{Workload, Find}
@@ -28,9 +30,6 @@ abbrev pub path_in : List ℕ → List ℕ
 path_in target = before 63 target
 
 -- ---- which paths are those of the pages
-
-abbrev pub begins : List ℕ → List ℕ → Bool
-begins path front = bytes_eq (take (length front) path) front
 
 abbrev pub is_page_path : List ℕ → Bool
 is_page_path path =
@@ -49,7 +48,6 @@ fixed path =
     else if bytes_eq path (codes "/desk/overdue") then Some (places.Page Overdue)
     else if bytes_eq path (codes "/desk/workload") then Some (places.Page Workload)
     else if bytes_eq path (codes "/desk/queues") then Some places.Queues
-    else if bytes_eq path (codes "/desk/go") then Some places.Go
     else None
 
 -- an act on a request
@@ -68,10 +66,6 @@ act_named word =
     else if bytes_eq word (codes "unlink") then Some forms.Unlink
     else if bytes_eq word (codes "level") then Some forms.SetLevel
     else None
-
--- what stands behind the front, where the path begins with it
-abbrev pub behind : List ℕ → List ℕ → Option (List ℕ)
-behind front path = if begins path front then Some (drop (length front) path) else None
 
 -- NAME, and NAME/new
 abbrev pub queue_page : List ℕ → Option (List ℕ) → Option Place
@@ -146,11 +140,20 @@ place_of path =
     option_or (fixed path)
     (below (behind (codes "/desk/queues/") path) (behind (codes "/desk/requests/") path))
 
--- the place of a target: of its path, and of a search by what stands behind the question mark
+-- where the box in the head leads
+abbrev pub go_at : List ℕ → Option Place
+go_at query = option_map (λ text. places.Go (box_page text)) (query_in query)
+
+abbrev pub queried : List ℕ → List ℕ → Option Place
+queried path query =
+    if bytes_eq path (codes "/desk/go") then go_at query else find_at path query
+
+-- the place of a target: of its path, and of a search or the box in the head by what stands behind
+-- the question mark too
 abbrev pub place_at : List ℕ → Option Place
 place_at target =
     option_or (place_of (path_in target))
-    (find_at (path_in target) (unwrap_or (rest_after 63 target) []))
+    (queried (path_in target) (unwrap_or (rest_after 63 target) []))
 
 -- ---- methods
 
@@ -169,5 +172,6 @@ page_takes_post _ = false
 -- each place has GET, and these have POST
 abbrev pub takes_post : Place → Bool
 takes_post places.Style = false
+takes_post (places.Go page) = false
 takes_post (places.Page page) = page_takes_post page
 takes_post _ = true

@@ -1,7 +1,7 @@
 -- What a message asks of the pages.
 use Rattle.std.specs.Prelude.{ℕ, Bool, true, false, if◌then◌else◌, List, [], ◌∷◌, codes}
 use Rattle.std.specs.Prelude.{Option, Some, None, Result, Ok, Err, unwrap_or}
-use Rattle.std.specs.Option.{option_and_then}
+use Rattle.std.specs.Str.{bytes_eq}
 use Rattle.hours_core.specs.Moment.{is_due_moment}
 use Rattle.desk_model.specs.declared.command.Command.{Command}
 use Rattle.settings_core.specs.declared.settings.Settings.{Settings}
@@ -15,7 +15,6 @@ use Rattle.browser_core.specs.Site.{is_own_post}
 use Rattle.browser_core.specs.Texts.{text_in}
 use Rattle.browser_core.specs.Trim.{trimmed}
 use Rattle.browser_core.specs.declared.form.Field.{Field}
-use Rattle.desk_forms.specs.Number.{number_of}
 use Rattle.desk_forms.specs.Paths.{InQueue, Nothing, OnRequest}
 use Rattle.desk_forms.specs.declared.paths.Method.{Method}
 use Rattle.desk_forms.specs.declared.paths.Method.TheVariants.{Get, Post}
@@ -28,10 +27,12 @@ use Rattle.page_routes.specs.declared.fault.PageFault.TheVariants.{NoRoute, BadM
 use Rattle.page_routes.specs.declared.fault.PageFault.TheVariants.{BadBody}
 use Rattle.page_routes.specs.declared.page.Page.{Page}
 use Rattle.page_routes.specs.declared.page.Page.TheVariants as pages
+use Rattle.page_routes.specs.declared.next.Next.{Next}
+use Rattle.page_routes.specs.declared.next.Next.TheVariants as nexts
 use Rattle.page_routes.specs.declared.place.Place.{Place}
 use Rattle.page_routes.specs.declared.place.Place.TheVariants as places
-use Rattle.page_routes.specs.declared.visit.SubmittedForm.{SubmittedForm}
-use Rattle.page_routes.specs.declared.visit.SubmittedForm.TheVariants as sends
+use Rattle.page_routes.specs.declared.next.SubmittedForm.{SubmittedForm}
+use Rattle.page_routes.specs.declared.next.SubmittedForm.TheVariants as sends
 use Rattle.page_routes.specs.declared.visit.PageRequest.{PageRequest}
 use Rattle.page_routes.specs.declared.visit.PageRequest.TheVariants as visits
 
@@ -71,69 +72,19 @@ looker settings at lines page =
     if is_search page then searcher settings at lines else caller_of settings at lines
 
 abbrev pub looked : Page → Option (List ℕ) → PageRequest
-looked page None = visits.Unknown page true
+looked page None = visits.Unknown (nexts.Page page) true
 looked page (Some caller) = visits.Look caller page
 
--- a place that only takes POST leads to where its form stands
+-- the box in the head leads on, and a place that only takes POST to where its form stands
 abbrev pub got : Settings → ℕ → Lines → Place → PageRequest
 got settings at lines places.Style = visits.Style
 got settings at lines places.SignIn = visits.SignIn
 got settings at lines (places.Page page) = looked page (looker settings at lines page)
+got settings at lines (places.Go page) = visits.Leads page
 got settings at lines (places.Act act id) = visits.Leads (pages.Request id)
 got settings at lines _ = visits.Leads pages.Home
 
--- ---- signing in
-
--- a page's own address leads there, and all else to `/`
-abbrev pub page_or_home : Option Place → Page
-page_or_home (Some (places.Page page)) = page
-page_or_home _ = pages.Home
-
-abbrev pub next_in : List Field → Page
-next_in fields = page_or_home (place_at (unwrap_or (value_of (codes "next") fields) []))
-
--- what was typed, without spaces and tabs round it
-abbrev pub token_in : List Field → Option (List ℕ)
-token_in fields = text_in (trimmed (unwrap_or (value_of (codes "token") fields) []))
-
-abbrev pub lasts_of : Bool → Lasts
-lasts_of keep = if keep then Month else Day
-
--- the cookie of what was typed, where it is a token of the settings
-abbrev pub cookie_by : Settings → ℕ → Bool → Option (List ℕ) → Option (List ℕ)
-cookie_by settings at keep None = None
-cookie_by settings at keep (Some token) = sessions.signed_in settings token at (lasts_of keep)
-
-abbrev pub signed_by : Option (List ℕ) → Bool → Page → PageRequest
-signed_by None keep next = visits.NotSignedIn next
-signed_by (Some cookie) keep next = visits.SignedIn cookie keep next
-
-abbrev pub signed_at : Settings → ℕ → List Field → PageRequest
-signed_at settings at fields =
-    signed_by (cookie_by settings at (has fields (codes "keep")) (token_in fields))
-    (has fields (codes "keep")) (next_in fields)
-
--- only at a moment of the desk
-abbrev pub signed : Settings → ℕ → List Field → PageRequest
-signed settings at fields =
-    if is_due_moment at then signed_at settings at fields else visits.NoMoment
-
-abbrev pub signing : Settings → ℕ → Option (List Field) → Answer
-signing settings at None = Err BadBody
-signing settings at (Some fields) =
-    if has_fields (codes "token" ∷ codes "next" ∷ []) (codes "keep" ∷ []) fields
-    then Ok (signed settings at fields) else Err BadBody
-
 -- ---- commands
-
-abbrev pub went : Option ℕ → Answer
-went None = Err BadBody
-went (Some id) = Ok (visits.Go id)
-
-abbrev pub going : List Field → Answer
-going fields =
-    if has_fields (codes "number" ∷ []) [] fields
-    then went (option_and_then number_of (value_of (codes "number") fields)) else Err BadBody
 
 -- the value of a field, and nothing where there is none
 abbrev pub typed : List ℕ → List Field → List ℕ
@@ -150,19 +101,29 @@ sent_in queue fields =
     sends.New queue (typed (codes "subject") fields) (typed (codes "requestors") fields)
     (typed (codes "text") fields) (filled (value_of (codes "status") fields))
 
-abbrev pub acted : List ℕ → SubmittedForm → Option Command → Answer
-acted caller sent None = Err BadBody
-acted caller sent (Some command) = Ok (visits.Act caller command sent)
+-- the person on whose page the form stood
+abbrev pub person_in : List Field → List ℕ
+person_in fields = typed (codes "me") fields
+
+-- a form of another person's page is no command
+abbrev pub sent_from : List ℕ → List ℕ → SubmittedForm → Command → PageRequest
+sent_from person caller sent command =
+    if bytes_eq person caller then visits.Act caller command sent
+    else visits.OtherPerson caller person sent
+
+abbrev pub acted : List ℕ → List ℕ → SubmittedForm → Option Command → Answer
+acted person caller sent None = Err BadBody
+acted person caller sent (Some command) = Ok (sent_from person caller sent command)
 
 -- what a caller's fields ask at a place that takes a command
 abbrev pub asked_at : List ℕ → Place → List Field → Answer
-asked_at caller places.Go fields = going fields
 asked_at caller places.Queues fields =
-    acted caller sends.Queue (command_in forms.OpenQueue Nothing fields)
+    acted (person_in fields) caller sends.Queue (command_in forms.OpenQueue Nothing fields)
 asked_at caller (places.Act act id) fields =
-    acted caller (sent_on act id fields) (command_in act (OnRequest id) fields)
+    acted (person_in fields) caller (sent_on act id fields) (command_in act (OnRequest id) fields)
 asked_at caller (places.Page (pages.New queue)) fields =
-    acted caller (sent_in queue fields) (command_in forms.Create (InQueue queue) fields)
+    acted (person_in fields) caller (sent_in queue fields)
+    (command_in forms.Create (InQueue queue) fields)
 asked_at caller _ fields = Err (BadMethod false)
 
 -- where the form of such a place stands
@@ -171,11 +132,91 @@ form_of (places.Act act id) = pages.Request id
 form_of (places.Page page) = page
 form_of _ = pages.Home
 
+-- what was typed into a form at a place, where a text is typed there
+abbrev pub typed_at : Place → List Field → Option SubmittedForm
+typed_at (places.Act forms.Reply id) fields = Some (sent_on forms.Reply id fields)
+typed_at (places.Act forms.Comment id) fields = Some (sent_on forms.Comment id fields)
+typed_at (places.Page (pages.New queue)) fields = Some (sent_in queue fields)
+typed_at _ fields = None
+
+-- where signing in leads then: to the form with that, or to the page on which it stands
+abbrev pub next_by : Page → Option SubmittedForm → Next
+next_by page None = nexts.Page page
+next_by page (Some sent) = nexts.Form sent
+
+abbrev pub next_of : Place → Option (List Field) → Next
+next_of place None = nexts.Page (form_of place)
+next_of place (Some fields) = next_by (form_of place) (typed_at place fields)
+
 -- the cookie comes before the body
 abbrev pub asked_by : Place → Option (List ℕ) → Option (List Field) → Answer
-asked_by place None fields = Ok (visits.Unknown (form_of place) false)
+asked_by place None fields = Ok (visits.Unknown (next_of place fields) false)
 asked_by place (Some caller) None = Err BadBody
 asked_by place (Some caller) (Some fields) = asked_at caller place fields
+
+-- ---- signing in
+
+-- a page's own address leads there, and all else to `/`
+abbrev pub page_or_home : Option Place → Page
+page_or_home (Some (places.Page page)) = page
+page_or_home _ = pages.Home
+
+-- a form's own address, with the text that was typed into it, leads to the form
+abbrev pub next_from : Option Place → List Field → Next
+next_from None fields = nexts.Page pages.Home
+next_from (Some place) fields =
+    if has fields (codes "text") then next_of place (Some fields)
+    else nexts.Page (page_or_home (Some place))
+
+abbrev pub next_in : List Field → Next
+next_in fields = next_from (place_at (typed (codes "next") fields)) fields
+
+-- what was typed, without spaces and tabs round it
+abbrev pub token_in : List Field → Option (List ℕ)
+token_in fields = text_in (trimmed (typed (codes "token") fields))
+
+abbrev pub lasts_of : Bool → Lasts
+lasts_of keep = if keep then Month else Day
+
+-- the cookie of what was typed, where it is a token of the settings
+abbrev pub cookie_by : Settings → ℕ → Bool → Option (List ℕ) → Option (List ℕ)
+cookie_by settings at keep None = None
+cookie_by settings at keep (Some token) = sessions.signed_in settings token at (lasts_of keep)
+
+-- to a form one is led as the person of the cookie
+abbrev pub resumed : Option (List ℕ) → List ℕ → Bool → SubmittedForm → PageRequest
+resumed None cookie keep sent = visits.NotSignedIn (nexts.Form sent)
+resumed (Some caller) cookie keep sent = visits.Resumed caller cookie keep sent
+
+abbrev pub signed_by : Option (List ℕ) → Option (List ℕ) → Bool → Next → PageRequest
+signed_by caller None keep next = visits.NotSignedIn next
+signed_by caller (Some cookie) keep (nexts.Page page) = visits.SignedIn cookie keep page
+signed_by caller (Some cookie) keep (nexts.Form sent) = resumed caller cookie keep sent
+
+abbrev pub signed_with : Settings → ℕ → Bool → Option (List ℕ) → Next → PageRequest
+signed_with settings at keep cookie next =
+    signed_by (caller_by settings at cookie) cookie keep next
+
+abbrev pub signed_at : Settings → ℕ → List Field → PageRequest
+signed_at settings at fields =
+    signed_with settings at (has fields (codes "keep"))
+    (cookie_by settings at (has fields (codes "keep")) (token_in fields)) (next_in fields)
+
+-- only at a moment of the desk
+abbrev pub signed : Settings → ℕ → List Field → PageRequest
+signed settings at fields =
+    if is_due_moment at then signed_at settings at fields else visits.NoMoment
+
+-- what may come along of a form
+abbrev pub kept : List (List ℕ)
+kept =
+    codes "keep" ∷ codes "subject" ∷ codes "requestors" ∷ codes "text" ∷ codes "status" ∷ []
+
+abbrev pub signing : Settings → ℕ → Option (List Field) → Answer
+signing settings at None = Err BadBody
+signing settings at (Some fields) =
+    if has_fields (codes "token" ∷ codes "next" ∷ []) kept fields
+    then Ok (signed settings at fields) else Err BadBody
 
 -- ---- POST
 

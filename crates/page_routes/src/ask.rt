@@ -1,16 +1,17 @@
 //! What a caller's form asks.
 
-ghost use Rattle.std.specs.Prelude.{◌≡◌, ◌≢◌, Ok, Err, IfErr, IfOk, codes};
+ghost use Rattle.std.specs.Prelude.{◌≡◌, ◌≢◌, Ok, Err, IfErr, IfOk, Some, codes};
 ghost use Rattle.browser_core.specs.Form as form;
 ghost use Rattle.page_routes.specs.FormArguments.{filled};
 ghost use Rattle.page_routes.specs.Visits as visits;
 
 use crate::fault::PageFault;
-use crate::filled::{command_in, filled_value, number_at, typed};
+use crate::filled::{command_in, filled_value, typed};
+use crate::next::{Next, SubmittedForm};
 use crate::page::Page;
 use crate::place::Place;
-use crate::visit::{PageRequest, SubmittedForm};
-use browser_core::{Field, fields_of, has_fields};
+use crate::visit::PageRequest;
+use browser_core::{Field, fields_of};
 use desk_forms::paths::PathParameter;
 use desk_forms::table::CommandForm;
 use desk_model::Command;
@@ -31,13 +32,35 @@ pub(crate) fn asked_by(
 {
     let Some(caller) = caller else {
         return Ok(PageRequest::Unknown {
-            next: form_of(place),
+            next: next_of(alloc, place, body)?,
             to_get: false,
         });
     };
     match fields_of(alloc, body)? {
         Some(fields) => asked_at(alloc, caller, place, fields.as_slice()),
         None => Err(PageFault::BadBody),
+    }
+}
+
+/// Where signing in leads from a place with what its form sent.
+fn next_of(alloc: Global, place: Place, body: &[u8]) -> Result<Next, AllocError>
+    ensures { IfOk result (λ next. next ≡ visits.next_of place (form.fields_of body.now)) }
+{
+    match fields_of(alloc, body)? {
+        Some(fields) => next_with(alloc, place, fields.as_slice()),
+        None => Ok(Next::Page(form_of(place))),
+    }
+}
+
+/// The same: to the form, where a text is typed into it, and else to where it stands.
+pub(crate) fn next_with(alloc: Global, place: Place, fields: &[Field]) -> Result<Next, AllocError>
+    ensures { IfOk result (λ next. next ≡ visits.next_of place (Some fields.now)) }
+{
+    match place {
+        Place::Act(CommandForm::Reply, id) => Ok(Next::Form(replied(alloc, id, fields)?)),
+        Place::Act(CommandForm::Comment, id) => Ok(Next::Form(commented(alloc, id, fields)?)),
+        Place::Page(Page::New(queue)) => Ok(Next::Form(sent_in(alloc, queue, fields)?)),
+        place => Ok(Next::Page(form_of(place))),
     }
 }
 
@@ -63,7 +86,6 @@ fn asked_at(
         → visits.asked_at caller place fields.now ≡ Err fault) }
 {
     match place {
-        Place::Go => going(fields),
         Place::Queues => {
             let command = command_in(
                 alloc,
@@ -71,11 +93,17 @@ fn asked_at(
                 PathParameter::Nothing,
                 fields,
             )?;
-            acted(caller, SubmittedForm::Queue, command)
+            acted(alloc, fields, caller, SubmittedForm::Queue, command)
         }
         Place::Act(act, id) => {
             let command = command_in(alloc, act, PathParameter::Request(id), fields)?;
-            acted(caller, sent_on(alloc, act, id, fields)?, command)
+            acted(
+                alloc,
+                fields,
+                caller,
+                sent_on(alloc, act, id, fields)?,
+                command,
+            )
         }
         Place::Page(Page::New(queue)) => {
             let command = command_in(
@@ -84,40 +112,59 @@ fn asked_at(
                 PathParameter::Queue(queue.as_str()),
                 fields,
             )?;
-            acted(caller, sent_in(alloc, queue, fields)?, command)
+            acted(
+                alloc,
+                fields,
+                caller,
+                sent_in(alloc, queue, fields)?,
+                command,
+            )
         }
         _ => Err(PageFault::BadMethod { posts: false }),
     }
 }
 
-/// To go to the number of a field.
-fn going(fields: &[Field]) -> Result<PageRequest, PageFault>
-    ensures { result ≡ visits.going fields.now }
-{
-    if !has_fields(fields, &["number"], &[]) {
-        return Err(PageFault::BadBody);
-    }
-    match number_at(fields, "number") {
-        Some(id) => Ok(PageRequest::Go { id }),
-        None => Err(PageFault::BadBody),
-    }
-}
-
 fn acted(
+    alloc: Global,
+    fields: &[Field],
     caller: Text,
     sent: SubmittedForm,
     command: Option<Command>,
 ) -> Result<PageRequest, PageFault>
-    ensures { result ≡ visits.acted caller sent command }
+    ensures ok { IfOk result (λ visit.
+        visits.acted (visits.person_in fields.now) caller sent command ≡ Ok visit) }
+    ensures err { IfErr result (λ fault. fault ≢ PageFault.NoMemory
+        → visits.acted (visits.person_in fields.now) caller sent command ≡ Err fault) }
 {
     match command {
-        Some(command) => Ok(PageRequest::Act {
+        Some(command) => Ok(sent_from(alloc, typed(fields, "me"), caller, sent, command)?),
+        None => Err(PageFault::BadBody),
+    }
+}
+
+/// The command of a form, if it stood on the caller's own page.
+fn sent_from(
+    alloc: Global,
+    person: &str,
+    caller: Text,
+    sent: SubmittedForm,
+    command: Command,
+) -> Result<PageRequest, AllocError>
+    ensures { IfOk result (λ visit. visit ≡ visits.sent_from person.now caller sent command) }
+{
+    if person == caller.as_str() {
+        return Ok(PageRequest::Act {
             caller,
             command,
             sent,
-        }),
-        None => Err(PageFault::BadBody),
+        });
     }
+    let person = Text::new(alloc, person)?;
+    Ok(PageRequest::OtherPerson {
+        caller,
+        person,
+        sent,
+    })
 }
 
 /// What was sent with a form on a request.
@@ -131,12 +178,17 @@ fn sent_on(
 {
     match act {
         CommandForm::Reply => replied(alloc, id, fields),
-        CommandForm::Comment => Ok(SubmittedForm::Comment {
-            id,
-            text: Text::new(alloc, typed(fields, "text"))?,
-        }),
+        CommandForm::Comment => commented(alloc, id, fields),
         _ => Ok(SubmittedForm::Change { id }),
     }
+}
+
+/// What was sent with the form for a comment.
+fn commented(alloc: Global, id: u32, fields: &[Field]) -> Result<SubmittedForm, AllocError>
+    ensures { IfOk result (λ sent. sent ≡ visits.sent_on CommandForm.Comment id fields.now) }
+{
+    let text = Text::new(alloc, typed(fields, "text"))?;
+    Ok(SubmittedForm::Comment { id, text })
 }
 
 /// What was sent with the form for a reply.

@@ -21,18 +21,18 @@ fn needed(of: CommandForm) -> &'static [&'static str]
     ensures { map (λ n. n.now) result.now ≡ filled.needed of }
 {
     match of {
-        CommandForm::OpenQueue => &["queue", "lifecycle", "level"],
-        CommandForm::Create => &["subject", "requestors"],
-        CommandForm::SetStatus => &["status"],
-        CommandForm::SetLevel => &["level"],
-        CommandForm::Give => &["person"],
-        CommandForm::Reply => &["text"],
-        CommandForm::Comment => &["text"],
-        CommandForm::Watch => &["role", "person"],
-        CommandForm::Unwatch => &["role", "person"],
-        CommandForm::Link => &["kind", "other"],
-        CommandForm::Unlink => &["kind", "other"],
-        _ => &[],
+        CommandForm::OpenQueue => &["me", "queue", "lifecycle", "level"],
+        CommandForm::Create => &["me", "subject", "requestors"],
+        CommandForm::SetStatus => &["me", "status"],
+        CommandForm::SetLevel => &["me", "level"],
+        CommandForm::Give => &["me", "person"],
+        CommandForm::Reply => &["me", "text"],
+        CommandForm::Comment => &["me", "text"],
+        CommandForm::Watch => &["me", "role", "person"],
+        CommandForm::Unwatch => &["me", "role", "person"],
+        CommandForm::Link => &["me", "kind", "other"],
+        CommandForm::Unlink => &["me", "kind", "other"],
+        _ => &["me"],
     }
 }
 
@@ -58,7 +58,7 @@ pub(crate) fn filled_value<'f>(fields: &'f [Field], name: &str) -> Option<&'f st
 }
 
 /// The number that a field's value is.
-pub(crate) fn number_at(fields: &[Field], name: &str) -> Option<u32>
+fn number_at(fields: &[Field], name: &str) -> Option<u32>
     ensures { result ≡ option_and_then number.number_of (value_in name.now fields.now) }
 {
     match value_of(fields, name) {

@@ -3,13 +3,16 @@
 //! - `visit_of` gives what is asked, or the first fault of `NoRoute`, `BadMethod`, `OtherSite` and
 //!   `BadBody`. `NoMemory` may come in place of any answer.
 //! - `is_page_place` tells which targets are places of the pages; all others are the interface's.
-//! - `page_path` is the path to which an answer leads: numbers and names alone.
+//! - `page_path` and `form_path` are the paths to which an answer leads: numbers and names alone.
 #![tactic(auto)]
 
 mod ask;
 mod fault;
 mod filled;
+mod fronts;
+mod head_box;
 mod lines;
+mod next;
 mod page;
 mod place;
 mod sign;
@@ -17,6 +20,7 @@ mod visit;
 
 pub use fault::PageFault;
 pub use lines::caller_of;
+pub use next::{Next, SubmittedForm, form_path};
 pub use page::{Page, page_path};
 pub use place::is_page_place;
-pub use visit::{PageRequest, SubmittedForm, visit_of};
+pub use visit::{PageRequest, visit_of};

@@ -29,7 +29,7 @@ pub fn caller_of(
 }
 
 /// The person for whom a cookie stands, if there is one and it does.
-fn caller_by(
+pub(crate) fn caller_by(
     alloc: Global,
     settings: &Settings,
     at: u32,

@@ -48,7 +48,7 @@ fn queue_path(alloc: Global, name: &str) -> Result<Text, AllocError>
     Ok(Text::from(path))
 }
 
-fn new_path(alloc: Global, name: &str) -> Result<Text, AllocError>
+pub(crate) fn new_path(alloc: Global, name: &str) -> Result<Text, AllocError>
     ensures { IfOk result (λ path. path ≡ codes "/desk/queues/" ++ (name.now ++ codes "/new")) }
 {
     let path = format!(in alloc; "/desk/queues/{name}/new")?;

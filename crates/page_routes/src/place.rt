@@ -5,8 +5,11 @@ ghost use Rattle.std.specs.List.{list_all};
 ghost use Rattle.std.specs.Option.{option_and_then, option_map};
 ghost use Rattle.browser_core.specs.Texts as texts;
 ghost use Rattle.desk_forms.specs.Number.{number_of};
+ghost use Rattle.page_routes.specs.Fronts as fronts;
 ghost use Rattle.page_routes.specs.Places as places;
 
+use crate::fronts::{begins, behind};
+use crate::head_box::box_page;
 use crate::page::Page;
 use browser_core::{cut, text_in};
 use desk_forms::number_of_word;
@@ -22,8 +25,8 @@ pub(crate) enum Place {
     Style,
     SignIn,
     SignOut,
-    /// To go to a number.
-    Go,
+    /// Where the box in the head of each page leads.
+    Go(Page),
     /// To open a queue.
     Queues,
     /// A page that GET shows.
@@ -64,23 +67,6 @@ pub(crate) fn path_in(target: &[u8]) -> &[u8]
     cut(target, b'?').0
 }
 
-fn begins(path: &[u8], front: &str) -> bool
-    ensures { result ≡ places.begins path.now front.now }
-{
-    path.len() >= front.len() && &path[..front.len()] == front.as_bytes()
-}
-
-/// What stands behind the front, where the path begins with it.
-fn behind<'p>(front: &str, path: &'p [u8]) -> Option<&'p [u8]>
-    ensures { option_map (λ r. r.now) result ≡ places.behind front.now path.now }
-{
-    if path.len() >= front.len() && &path[..front.len()] == front.as_bytes() {
-        Some(&path[front.len()..])
-    } else {
-        None
-    }
-}
-
 /// The place of a path that names nothing.
 fn fixed(path: &[u8]) -> Option<Place>
     ensures { result ≡ places.fixed path.now }
@@ -99,8 +85,6 @@ fn fixed(path: &[u8]) -> Option<Place>
         Some(Place::Page(Page::Workload))
     } else if path == b"/desk/queues".as_slice() {
         Some(Place::Queues)
-    } else if path == b"/desk/go".as_slice() {
-        Some(Place::Go)
     } else {
         None
     }
@@ -208,8 +192,8 @@ fn in_requests(rest: &[u8]) -> Option<Place>
 /// The place of a path that names a queue or a request.
 fn below(alloc: Global, path: &[u8]) -> Result<Option<Place>, AllocError>
     ensures { IfOk result (λ place. place ≡ places.below
-        (places.behind (codes "/desk/queues/") path.now)
-        (places.behind (codes "/desk/requests/") path.now)) }
+        (fronts.behind (codes "/desk/queues/") path.now)
+        (fronts.behind (codes "/desk/requests/") path.now)) }
 {
     if let Some(rest) = behind(QUEUES, path) {
         return in_queues(alloc, rest);
@@ -220,15 +204,36 @@ fn below(alloc: Global, path: &[u8]) -> Result<Option<Place>, AllocError>
     }
 }
 
-/// The place of a target, if it has one: that of its path, and for a search what stands behind its
-/// question mark.
+/// The place of a target, if it has one: that of its path, and for a search or the box in the head
+/// that of what stands behind its question mark too.
 pub(crate) fn place_at(alloc: Global, target: &[u8]) -> Result<Option<Place>, AllocError>
     ensures { IfOk result (λ place. place ≡ places.place_at target.now) }
 {
     let (path, query) = cut(target, b'?');
     match place_of(alloc, path)? {
         Some(place) => Ok(Some(place)),
-        None => find_at(alloc, path, query_of(query)),
+        None => queried(alloc, path, query_of(query)),
+    }
+}
+
+/// The place of a path that has a query.
+fn queried(alloc: Global, path: &[u8], query: &[u8]) -> Result<Option<Place>, AllocError>
+    ensures { IfOk result (λ place. place ≡ places.queried path.now query.now) }
+{
+    if path == b"/desk/go".as_slice() {
+        go_at(alloc, query)
+    } else {
+        find_at(alloc, path, query)
+    }
+}
+
+/// Where the box in the head leads, if the query can stand in an address.
+fn go_at(alloc: Global, query: &[u8]) -> Result<Option<Place>, AllocError>
+    ensures { IfOk result (λ place. place ≡ places.go_at query.now) }
+{
+    match query_in(query) {
+        Some(query) => Ok(Some(Place::Go(box_page(alloc, query)?))),
+        None => Ok(None),
     }
 }
 
@@ -352,6 +357,7 @@ pub(crate) fn takes_post(place: &Place) -> bool
 {
     match place {
         Place::Style => false,
+        Place::Go(_) => false,
         Place::Page(Page::New(_)) => true,
         Place::Page(_) => false,
         _ => true,

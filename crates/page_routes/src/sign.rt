@@ -1,12 +1,15 @@
 //! Signing in.
 
-ghost use Rattle.std.specs.Prelude.{◌≡◌, ◌≢◌, Ok, Err, IfErr, IfOk};
+ghost use Rattle.std.specs.Prelude.{◌≡◌, ◌≢◌, Ok, Err, IfErr, IfOk, Some};
 ghost use Rattle.std.specs.Option.{option_map};
 ghost use Rattle.browser_core.specs.Form as form;
 ghost use Rattle.page_routes.specs.Visits as visits;
 
+use crate::ask::next_with;
 use crate::fault::PageFault;
 use crate::filled::typed;
+use crate::lines::caller_by;
+use crate::next::{Next, SubmittedForm};
 use crate::page::Page;
 use crate::place::{Place, place_at};
 use crate::visit::PageRequest;
@@ -32,7 +35,8 @@ pub(crate) fn signing(
     let Some(fields) = fields_of(alloc, body)? else {
         return Err(PageFault::BadBody);
     };
-    if !has_fields(fields.as_slice(), &["token", "next"], &["keep"]) {
+    let kept = ["keep", "subject", "requestors", "text", "status"];
+    if !has_fields(fields.as_slice(), &["token", "next"], &kept) {
         return Err(PageFault::BadBody);
     }
     Ok(signed(alloc, settings, at, fields.as_slice())?)
@@ -65,9 +69,45 @@ fn signed_at(
     let keep = has(fields, "keep");
     let cookie = cookie_by(alloc, settings, moment, keep, token_in(fields))?;
     let next = next_in(alloc, fields)?;
-    match cookie {
-        Some(cookie) => Ok(PageRequest::SignedIn { cookie, keep, next }),
-        None => Ok(PageRequest::NotSignedIn { next }),
+    signed_with(alloc, settings, moment.get(), keep, cookie, next)
+}
+
+/// The same by the cookie of what was typed, if there is one.
+fn signed_with(
+    alloc: Global,
+    settings: &Settings,
+    at: u32,
+    keep: bool,
+    cookie: Option<Text>,
+    next: Next,
+) -> Result<PageRequest, AllocError>
+    ensures { IfOk result (λ visit.
+        visit ≡ visits.signed_with settings.now at keep cookie next) }
+{
+    match (cookie, next) {
+        (Some(cookie), Next::Page(next)) => Ok(PageRequest::SignedIn { cookie, keep, next }),
+        (Some(cookie), Next::Form(sent)) => {
+            let caller = caller_by(alloc, settings, at, Some(cookie.as_str()))?;
+            Ok(resumed(caller, cookie, keep, sent))
+        }
+        (None, next) => Ok(PageRequest::NotSignedIn { next }),
+    }
+}
+
+/// The form that is filled in once more by the person of a cookie.
+fn resumed(caller: Option<Text>, cookie: Text, keep: bool, sent: SubmittedForm) -> PageRequest
+    ensures { result ≡ visits.resumed caller cookie keep sent }
+{
+    match caller {
+        Some(caller) => PageRequest::Resumed {
+            caller,
+            cookie,
+            keep,
+            sent,
+        },
+        None => PageRequest::NotSignedIn {
+            next: Next::Form(sent),
+        },
     }
 }
 
@@ -102,19 +142,32 @@ fn lasts_of(keep: bool) -> Lasts
     if keep { Lasts::Month } else { Lasts::Day }
 }
 
-/// The page whose address is in the field `next`, or else `/`.
-fn next_in(alloc: Global, fields: &[Field]) -> Result<Page, AllocError>
-    ensures { IfOk result (λ page. page ≡ visits.next_in fields.now) }
+/// Where the field `next` leads: to the form whose address it is, where what was typed into it came
+/// along; or to the page whose address it is, or else `/`.
+fn next_in(alloc: Global, fields: &[Field]) -> Result<Next, AllocError>
+    ensures { IfOk result (λ next. next ≡ visits.next_in fields.now) }
 {
-    let place = place_at(alloc, typed(fields, "next").as_bytes())?;
-    Ok(page_or_home(place))
+    match place_at(alloc, typed(fields, "next").as_bytes())? {
+        Some(place) => next_at(alloc, place, fields),
+        None => Ok(Next::Page(Page::Home)),
+    }
 }
 
-fn page_or_home(place: Option<Place>) -> Page
-    ensures { result ≡ visits.page_or_home place }
+fn next_at(alloc: Global, place: Place, fields: &[Field]) -> Result<Next, AllocError>
+    ensures { IfOk result (λ next. next ≡ visits.next_from (Some place) fields.now) }
+{
+    if has(fields, "text") {
+        next_with(alloc, place, fields)
+    } else {
+        Ok(Next::Page(page_or_home(place)))
+    }
+}
+
+fn page_or_home(place: Place) -> Page
+    ensures { result ≡ visits.page_or_home (Some place) }
 {
     match place {
-        Some(Place::Page(page)) => page,
+        Place::Page(page) => page,
         _ => Page::Home,
     }
 }

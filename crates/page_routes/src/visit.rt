@@ -9,6 +9,7 @@ ghost use Rattle.page_routes.specs.Visits as visits;
 use crate::ask::asked_by;
 use crate::fault::PageFault;
 use crate::lines::{caller_of, is_own};
+use crate::next::{Next, SubmittedForm};
 use crate::page::Page;
 use crate::place::{Place, method_named, place_at, takes_post};
 use crate::sign::signing;
@@ -18,38 +19,6 @@ use message_core::Request;
 use settings_core::Settings;
 use std::alloc::{AllocError, Global};
 use text_core::Text;
-
-/// The form with which a command was sent, and what was typed into it that a refusal's page holds.
-#[derive(Drop)]
-pub enum SubmittedForm {
-    /// To open a queue: done or refused, it leads to `/`.
-    Queue,
-    /// To file a request in the queue, and to send its first text, where one was typed: done, it
-    /// leads to the end of the new request's history, and refused to the queue.
-    New {
-        queue: Text,
-        subject: Text,
-        requestors: Text,
-        text: Text,
-        status: Option<Text>,
-    },
-    /// To reply to the request, and to move it to a status, where one was chosen: done, it leads to
-    /// the end of its history, and refused to it.
-    Reply {
-        id: u32,
-        text: Text,
-        status: Option<Text>,
-    },
-    /// To comment on the request: the same.
-    Comment {
-        id: u32,
-        text: Text,
-    },
-    /// To change the request: the same.
-    Change {
-        id: u32,
-    },
-}
 
 /// What a message asks of the pages.
 #[derive(Drop)]
@@ -65,20 +34,29 @@ pub enum PageRequest {
         keep: bool,
         next: Page,
     },
+    /// The same with what had been typed into a form: its page, with that cookie. Nothing is done.
+    Resumed {
+        caller: Text,
+        cookie: Text,
+        keep: bool,
+        sent: SubmittedForm,
+    },
     /// POST of `/sign-in` with no token of the settings: its page once more, which says so.
     NotSignedIn {
-        next: Page,
+        next: Next,
     },
     /// POST of `/sign-in` at a minute that is no moment of the desk: the page that tells so.
     NoMoment,
     /// POST of `/sign-out`: 303 to `/sign-in`, and the cookie is cleared.
     SignOut,
-    /// GET of a place that only takes POST: 303 to where its form stands.
+    /// GET of a place that only takes POST: 303 to where its form stands. Of `/desk/go`: 303 to what
+    /// was typed into the box in the head.
     Leads(Page),
     /// Nobody's cookie, at any other place, or a search that another site opens: the sign-in page,
-    /// which leads to this one. It is answered at that very page to a GET, and elsewhere to a POST.
+    /// which leads to this one, or to a form with what was typed into it. It is answered at that very
+    /// page to a GET, and elsewhere to a POST.
     Unknown {
-        next: Page,
+        next: Next,
         to_get: bool,
     },
     /// GET of a page.
@@ -86,9 +64,12 @@ pub enum PageRequest {
         caller: Text,
         page: Page,
     },
-    /// POST of `/desk/go`: 303 to this request.
-    Go {
-        id: u32,
+    /// POST of any other place by a form of another person's page: nothing is done, and the page that
+    /// says so has what was typed.
+    OtherPerson {
+        caller: Text,
+        person: Text,
+        sent: SubmittedForm,
     },
     /// POST of any other place: a command.
     Act {
@@ -170,6 +151,7 @@ fn got(
             let caller = looker(alloc, settings, at, request, &page)?;
             Ok(looked(page, caller))
         }
+        Place::Go(page) => Ok(PageRequest::Leads(page)),
         Place::Act(_, id) => Ok(PageRequest::Leads(Page::Request(id))),
         _ => Ok(PageRequest::Leads(Page::Home)),
     }
@@ -222,7 +204,7 @@ fn looked(page: Page, caller: Option<Text>) -> PageRequest
     match caller {
         Some(caller) => PageRequest::Look { caller, page },
         None => PageRequest::Unknown {
-            next: page,
+            next: Next::Page(page),
             to_get: true,
         },
     }

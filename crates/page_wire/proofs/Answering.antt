@@ -7,6 +7,7 @@ use Rattle.sqlite.specs.State.{State}
 use Rattle.httparse.specs.Grammar.{RequestHead}
 use Rattle.hours_core.specs.Moment.{is_due_moment}
 use Rattle.settings_core.specs.declared.settings.Settings.{Settings}
+use Rattle.desk_model.specs.Desk.{Desk}
 use Rattle.desk_model.specs.declared.command.Command.{Command}
 use Rattle.message_core.specs.Head.{StartsWith}
 use Rattle.message_core.specs.Reply.{bytes_of, unavailable}
@@ -17,7 +18,7 @@ use Rattle.message_core.specs.declared.fault.WireFault.TheVariants.{TooLong, Tru
 use Rattle.message_core.specs.declared.request.Request.{Request}
 use Rattle.page_routes.specs.declared.fault.PageFault.{PageFault}
 use Rattle.page_routes.specs.declared.page.Page.{Page}
-use Rattle.page_routes.specs.declared.visit.SubmittedForm.{SubmittedForm}
+use Rattle.page_routes.specs.declared.next.SubmittedForm.{SubmittedForm}
 use Rattle.page_routes.specs.declared.visit.PageRequest.{PageRequest}
 use Rattle.page_routes.specs.declared.visit.PageRequest.TheVariants.{Look, Act}
 use Rattle.page_routes.specs.Places.{is_page_path, path_in}
@@ -113,10 +114,10 @@ fault_told s at fault (Ok out) tables told = leads_nowhere s _ tables (λ desk. 
 fault_told s at fault (Err e) tables told = tt
 
 by_no : (b : Bool) (Yes No : Type 0) → b ≡ false → No → IfElse b Yes No
-by_no b Yes No is holds = subst (λ (c : Bool). By c Yes No) (sym is) holds
+by_no b Yes No is holds = subst (λ (c : Bool). IfElse c Yes No) (sym is) holds
 
 by_yes : (b : Bool) (Yes No : Type 0) → b ≡ true → Yes → IfElse b Yes No
-by_yes b Yes No is holds = subst (λ (c : Bool). By c Yes No) (sym is) holds
+by_yes b Yes No is holds = subst (λ (c : Bool). IfElse c Yes No) (sym is) holds
 
 -- whoever asks whether the desk is there is told
 pub health_told : {A E : Type 0} (s : Settings) (at : ℕ) (request : Request) (h : Bool)
@@ -243,6 +244,23 @@ look_visit s at visit caller page moment made (Ok x) room old new asked is steps
     subst (λ (v : PageRequest). TimedPageStepsOn s at v room.items old new) (sym asked)
     (at_its_moment s at (Look caller page) room.items old new when.0 now)
 look_visit s at visit caller page moment made (Err e) room old new asked is steps same = tt
+
+-- a page for which the desk is asked for nothing
+pub told_visit : {A X E F : Type 0} (s : Settings) (at : ℕ) (visit : PageRequest)
+    (reply : ℕ → List ℕ) (moment : ℕ) (made : Result (Vec ℕ A) E) (r : Result X F) (room : Vec ℕ A)
+    (tables : State)
+    → ((desk : Desk) (bytes : List ℕ) → bytes ≡ reply at
+    → PageRequestSteps s at visit desk bytes desk)
+    → Some moment ≡ (if is_due_moment at then Some at else None)
+    → IfOk made (λ out. out.items ≡ reply moment) → OnOk r (made ≡ Ok room)
+    → OnOk r (TimedPageStepsOn s at visit room.items tables tables)
+told_visit s at visit reply moment made (Ok x) room tables fits is told same =
+    let when = is_moment (is_due_moment at) at moment is in
+    let first = subst (λ m. IfOk m (λ out. out.items ≡ reply moment)) same told in
+    let now = subst (λ n. room.items ≡ reply n) when.1 first in
+    at_its_moment s at visit room.items tables tables when.0
+    (leads_nowhere s _ tables (λ desk. fits desk room.items now))
+told_visit s at visit reply moment made (Err e) room tables fits is told same = tt
 
 pub act_visit : {X F : Type 0} (s : Settings) (at : ℕ) (visit : PageRequest) (caller : List ℕ)
     (command : Command) (sent : SubmittedForm) (moment : ℕ) (r : Result X F) (bytes : List ℕ)

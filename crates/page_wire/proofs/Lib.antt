@@ -1,3 +1,4 @@
 pub mod Answering
 pub mod HeadOnly
+pub mod Laws
 pub mod Steps

@@ -34,7 +34,7 @@ use Rattle.store_tables.specs.Calls.{LeavesTables, WasClean}
 use Rattle.store_tables.specs.Contents.{contents_of}
 use Rattle.wire_core.specs.Steps.{StaysOn}
 use Rattle.wire_core.proofs.Stepping.{leads_nowhere, leads_wider, stays}
-use Rattle.page_routes.specs.declared.visit.SubmittedForm.{SubmittedForm}
+use Rattle.page_routes.specs.declared.next.SubmittedForm.{SubmittedForm}
 use Rattle.page_wire.specs.Forms.{FormStepsOn, IsTold, SecondStepsOn, StepsUnless, StepsUnrefusedOn}
 use Rattle.page_wire.specs.Forms.{refused_before}
 use Rattle.page_wire.specs.Next.{follow_up_command}

@@ -9,7 +9,7 @@ use Rattle.desk_model.specs.declared.answer.Answer.{Answer}
 use Rattle.desk_model.specs.declared.answer.Answer.TheVariants as answer
 use Rattle.desk_model.specs.declared.command.Command.{Command}
 use Rattle.desk_model.specs.declared.refusal.Refusal.{Refusal}
-use Rattle.page_routes.specs.declared.visit.SubmittedForm.{SubmittedForm}
+use Rattle.page_routes.specs.declared.next.SubmittedForm.{SubmittedForm}
 use Rattle.service_core.specs.TableSteps.{IsStep, OverTables, ask_by}
 use Rattle.page_wire.specs.Next.{follow_up_command}
 use Rattle.page_wire.specs.Replies.{done_reply, half_reply, refused_reply}

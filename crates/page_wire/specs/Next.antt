@@ -6,8 +6,8 @@ use Rattle.desk_model.specs.declared.answer.Answer.{Answer}
 use Rattle.desk_model.specs.declared.answer.Answer.TheVariants as answer
 use Rattle.desk_model.specs.declared.command.Command.{Command}
 use Rattle.desk_model.specs.declared.command.Command.TheVariants as command
-use Rattle.page_routes.specs.declared.visit.SubmittedForm.{SubmittedForm}
-use Rattle.page_routes.specs.declared.visit.SubmittedForm.TheVariants as sent
+use Rattle.page_routes.specs.declared.next.SubmittedForm.{SubmittedForm}
+use Rattle.page_routes.specs.declared.next.SubmittedForm.TheVariants as sent
 
 -- a space, a tab or the end of a line
 abbrev pub is_space : ℕ → Bool

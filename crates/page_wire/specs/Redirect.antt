@@ -3,8 +3,8 @@ use Rattle.std.specs.Prelude.{ℕ, List}
 use Rattle.page_reply.specs.PageReply.{way_to}
 use Rattle.page_routes.specs.Paths.{path_of, reply_path}
 use Rattle.page_routes.specs.declared.page.Page.TheVariants.{Home}
-use Rattle.page_routes.specs.declared.visit.SubmittedForm.{SubmittedForm}
-use Rattle.page_routes.specs.declared.visit.SubmittedForm.TheVariants as sent
+use Rattle.page_routes.specs.declared.next.SubmittedForm.{SubmittedForm}
+use Rattle.page_routes.specs.declared.next.SubmittedForm.TheVariants as sent
 
 -- to the end of the history of a request
 abbrev pub led_to : ℕ → List ℕ

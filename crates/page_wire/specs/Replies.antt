@@ -26,33 +26,40 @@ use Rattle.page_core.specs.Page.{Part, page_bytes}
 use Rattle.desk_pages.specs.Find.{find_fault_page, find_page}
 use Rattle.desk_pages.specs.Home.{home_page}
 use Rattle.desk_pages.specs.New.{new_page}
-use Rattle.desk_pages.specs.RefusalPage.{ask_refusal_page, comment_refusal_page, filed_page}
-use Rattle.desk_pages.specs.RefusalPage.{refusal_page, replied_page, reply_refusal_page}
-use Rattle.desk_pages.specs.RefusalPage.{request_refusal_page}
+use Rattle.desk_pages.specs.RefusalPage.{filed_page, refusal_page, replied_page, unsent_ask_page}
+use Rattle.desk_pages.specs.RefusalPage.{unsent_change_page, unsent_comment_page, unsent_page}
+use Rattle.desk_pages.specs.RefusalPage.{unsent_reply_page}
 use Rattle.desk_pages.specs.Request.{request_page}
-use Rattle.desk_pages.specs.SignIn.{sign_in_page}
+use Rattle.desk_pages.specs.SignIn.{kept_page, sign_in_page}
 use Rattle.desk_pages.specs.Workload.{workload_page}
+use Rattle.desk_pages.specs.declared.unsent.Unsent.{Unsent}
+use Rattle.desk_pages.specs.declared.unsent.Unsent.TheVariants.{Refused, OtherPerson, SignedIn}
 use Rattle.page_reply.specs.PageReply.{bytes_of}
 use Rattle.page_reply.specs.declared.reply.CookieChange.{CookieChange}
 use Rattle.page_reply.specs.declared.reply.CookieChange.TheVariants.{Keep, Session, Stay}
 use Rattle.page_routes.specs.declared.page.Page as routes
-use Rattle.page_routes.specs.Paths.{path_of}
-use Rattle.page_routes.specs.declared.visit.SubmittedForm.{SubmittedForm}
-use Rattle.page_routes.specs.declared.visit.SubmittedForm.TheVariants as sent
+use Rattle.page_routes.specs.Paths.{form_path, path_of}
+use Rattle.page_routes.specs.declared.next.Next.{Next}
+use Rattle.page_routes.specs.declared.next.Next.TheVariants as nexts
+use Rattle.page_routes.specs.declared.next.SubmittedForm.{SubmittedForm}
+use Rattle.page_routes.specs.declared.next.SubmittedForm.TheVariants as sent
 use Rattle.wire_core.specs.Replies.{code_of_refusal}
 use Rattle.page_wire.specs.Redirect.{led_by, led_to}
 
--- a page, with its code
-abbrev pub with_page : ℕ → List ℕ → List ℕ
-with_page status page =
+-- a page, with its code and a cookie
+abbrev pub with_cookie : CookieChange → ℕ → List ℕ → List ℕ
+with_cookie cookie status page =
     bytes_of (record {
       status = status;
-      cookie = Keep;
+      cookie = cookie;
       location = None;
       allow = None;
       page = page;
       head_only = false;
     })
+
+abbrev pub with_page : ℕ → List ℕ → List ℕ
+with_page status page = with_cookie Keep status page
 
 -- the way to another place
 abbrev pub leads_to : CookieChange → List ℕ → List ℕ
@@ -77,9 +84,23 @@ no_answer caller at = refused caller at Unavailable
 
 -- ---- signing in and out
 
-abbrev pub sign_in : ℕ → routes.Page → Bool → Bool → List ℕ
-sign_in status next unknown elsewhere =
-    with_page status (page_bytes (sign_in_page (path_of next) unknown elsewhere))
+-- what of a form comes along where one is asked to sign in, if a text is typed into it
+abbrev pub sign_in_form : SubmittedForm → Bool → List Part
+sign_in_form sent.Queue unknown = sign_in_page (form_path sent.Queue) unknown false
+sign_in_form (sent.New queue subject requestors text status) unknown =
+    kept_page (form_path (sent.New queue subject requestors text status)) subject requestors text
+    (unwrap_or status []) unknown
+sign_in_form (sent.Reply id text status) unknown =
+    kept_page (form_path (sent.Reply id text status)) [] [] text (unwrap_or status []) unknown
+sign_in_form (sent.Comment id text) unknown =
+    kept_page (form_path (sent.Comment id text)) [] [] text [] unknown
+sign_in_form (sent.Change id) unknown = sign_in_page (form_path (sent.Change id)) unknown false
+
+abbrev pub sign_in : ℕ → Next → Bool → Bool → List ℕ
+sign_in status (nexts.Page page) unknown elsewhere =
+    with_page status (page_bytes (sign_in_page (path_of page) unknown elsewhere))
+sign_in status (nexts.Form sent) unknown elsewhere =
+    with_page status (page_bytes (sign_in_form sent unknown))
 
 abbrev pub cookie_for : Bool → List ℕ → CookieChange
 cookie_for true cookie = Stay cookie
@@ -167,20 +188,29 @@ abbrev pub done_reply : SubmittedForm → Answer → List ℕ
 done_reply sent (answer.Created id) = led_to id
 done_reply sent other = led_by sent
 
--- refused: its page, with what was typed and chosen
-abbrev pub refused_form : List ℕ → ℕ → SubmittedForm → Refusal → List Part
-refused_form caller at sent.Queue refusal = refusal_page refusal caller at
-refused_form caller at (sent.New queue subject requestors text status) refusal =
-    ask_refusal_page refusal caller at queue subject text requestors status
-refused_form caller at (sent.Reply id text status) refusal =
-    reply_refusal_page refusal caller at id text status
-refused_form caller at (sent.Comment id text) refusal =
-    comment_refusal_page refusal caller at id text
-refused_form caller at (sent.Change id) refusal = request_refusal_page refusal caller at id
+-- not sent: its page, with what was typed and chosen
+abbrev pub unsent_form : List ℕ → ℕ → SubmittedForm → Unsent → List Part
+unsent_form caller at sent.Queue why = unsent_page why caller at
+unsent_form caller at (sent.New queue subject requestors text status) why =
+    unsent_ask_page why caller at queue subject text requestors status
+unsent_form caller at (sent.Reply id text status) why =
+    unsent_reply_page why caller at id text status
+unsent_form caller at (sent.Comment id text) why = unsent_comment_page why caller at id text
+unsent_form caller at (sent.Change id) why = unsent_change_page why caller at id
 
 abbrev pub refused_reply : List ℕ → ℕ → SubmittedForm → Refusal → List ℕ
 refused_reply caller at sent refusal =
-    with_page (code_of_refusal refusal) (page_bytes (refused_form caller at sent refusal))
+    with_page (code_of_refusal refusal) (page_bytes (unsent_form caller at sent (Refused refusal)))
+
+-- it stood on this other person's page
+abbrev pub other_person_reply : List ℕ → ℕ → List ℕ → SubmittedForm → List ℕ
+other_person_reply caller at person sent =
+    with_page 409 (page_bytes (unsent_form caller at sent (OtherPerson person)))
+
+-- the caller is signed in now
+abbrev pub resumed_reply : List ℕ → ℕ → List ℕ → Bool → SubmittedForm → List ℕ
+resumed_reply caller at cookie keep sent =
+    with_cookie (cookie_for keep cookie) 200 (page_bytes (unsent_form caller at sent SignedIn))
 
 -- its first command done and its second refused: what was done and what wasn't, with a text that
 -- wasn't sent; no other form has a second command

@@ -154,6 +154,10 @@ Stays visit old bytes new = IsFixed visit bytes × (new ≡ old)
 -- what a visit asks of the desk
 abbrev pub PageRequestSteps : Settings → ℕ → PageRequest → Desk → List ℕ → Desk → Type 0
 PageRequestSteps settings at (visit.Look caller page) = LookSteps settings at caller page
+PageRequestSteps settings at (visit.Resumed caller cookie keep sent) =
+    Tells (replies.resumed_reply caller at cookie keep sent)
+PageRequestSteps settings at (visit.OtherPerson caller person sent) =
+    Tells (replies.other_person_reply caller at person sent)
 PageRequestSteps settings at (visit.Act caller command sent) = FormSteps settings at caller command sent
 PageRequestSteps settings at other = Stays other
 

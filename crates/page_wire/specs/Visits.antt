@@ -5,8 +5,9 @@ use Rattle.desk_style.specs.Sheet.{is_plain}
 use Rattle.page_reply.specs.PageReply.{sheet_bytes}
 use Rattle.page_reply.specs.declared.reply.CookieChange.TheVariants.{Keep, Forget}
 use Rattle.page_routes.specs.Paths.{path_of}
+use Rattle.page_routes.specs.declared.next.Next.TheVariants as nexts
 use Rattle.page_routes.specs.declared.page.Page.{Page}
-use Rattle.page_routes.specs.declared.page.Page.TheVariants.{Home, Request}
+use Rattle.page_routes.specs.declared.page.Page.TheVariants.{Home}
 use Rattle.page_routes.specs.declared.visit.PageRequest.{PageRequest}
 use Rattle.page_routes.specs.declared.visit.PageRequest.TheVariants as visit
 use Rattle.page_wire.specs.Faults.{clock_reply}
@@ -29,13 +30,14 @@ IsSheet bytes =
 -- a page and a form have the last one where no page can tell their moment
 abbrev pub IsFixed : PageRequest → List ℕ → Type 0
 IsFixed visit.Style bytes = IsSheet bytes
-IsFixed visit.SignIn bytes = bytes ≡ sign_in 200 Home false false
+IsFixed visit.SignIn bytes = bytes ≡ sign_in 200 (nexts.Page Home) false false
 IsFixed (visit.SignedIn cookie keep next) bytes = bytes ≡ signed_in cookie keep next
 IsFixed (visit.NotSignedIn next) bytes = bytes ≡ sign_in 403 next true false
 IsFixed visit.NoMoment bytes = bytes ≡ clock_reply
 IsFixed visit.SignOut bytes = bytes ≡ signed_out
 IsFixed (visit.Leads next) bytes = bytes ≡ leads_on next
 IsFixed (visit.Unknown next to_get) bytes = bytes ≡ sign_in 403 next false to_get
-IsFixed (visit.Go id) bytes = bytes ≡ leads_on (Request id)
 IsFixed (visit.Look caller page) bytes = bytes ≡ clock_reply
+IsFixed (visit.Resumed caller cookie keep sent) bytes = bytes ≡ clock_reply
+IsFixed (visit.OtherPerson caller person sent) bytes = bytes ≡ clock_reply
 IsFixed (visit.Act caller command sent) bytes = bytes ≡ clock_reply

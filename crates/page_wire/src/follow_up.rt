@@ -1,5 +1,5 @@
 //! The second command of a form, after the first was done.
-ghost use Rattle.std.specs.Prelude.{◌≡◌, ◌≤◌, [], IfOk, Some, unwrap_or};
+ghost use Rattle.std.specs.Prelude.{◌≡◌, ◌≤◌, [], IfOk, Some};
 ghost use Rattle.std.specs.Vec.{vec_capacity};
 ghost use Rattle.page_core.specs.Page.{page_bytes};
 ghost use Rattle.service_core.specs.Leaves.{LeavesDesk};
@@ -9,6 +9,7 @@ ghost use Rattle.page_wire.specs.Replies as form;
 
 use crate::redirect::put_done;
 use crate::replies::with_page;
+use crate::sign_in::chosen;
 use desk_core::{Answer, Command, Refusal};
 use desk_pages::{filed_page, refusal_page, replied_page};
 use hours_core::Minute;
@@ -16,7 +17,6 @@ use page_routes::SubmittedForm;
 use service_core::Desk;
 use std::alloc::{AllocError, Global};
 use store_core::Backend;
-use text_core::Text;
 use wire_core::code_of_refusal;
 
 /// Does the second command of a form, if there is one, after this answer to the first, and puts the
@@ -130,15 +130,5 @@ fn half_page(
             replied_page(alloc, refusal, caller, moment, *id, chosen(status))
         }
         _ => refusal_page(alloc, refusal, caller, moment),
-    }
-}
-
-/// The status that was chosen with a reply.
-fn chosen(status: &Option<Text>) -> &str
-    ensures { result.now ≡ unwrap_or status.now [] }
-{
-    match status {
-        Some(status) => status.as_str(),
-        None => "",
     }
 }

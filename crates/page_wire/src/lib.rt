@@ -12,13 +12,16 @@ mod faults;
 mod follow_up;
 mod head_only;
 mod health;
+pub mod laws;
 mod next;
 mod pages;
 mod redirect;
 mod render;
 mod replies;
 mod serve;
+mod sign_in;
 mod submit;
+mod unsent;
 mod visits;
 
 pub use serve::{answer_sent, read_sent};

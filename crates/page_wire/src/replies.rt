@@ -4,10 +4,9 @@ ghost use Rattle.http.specs.StatusCode.{IsStatusCode};
 ghost use Rattle.page_wire.specs.Replies as form;
 
 use desk_core::Refusal;
-use desk_pages::{refusal_page, sign_in_page};
+use desk_pages::refusal_page;
 use hours_core::Minute;
 use page_reply::{CookieChange, PageReply, page_reply};
-use page_routes::{Page, page_path};
 use std::alloc::{AllocError, Global};
 use text_core::{Sequence, Text};
 use wire_core::code_of_refusal;
@@ -17,9 +16,22 @@ pub(crate) fn with_page(alloc: Global, status: u16, page: Vec<u8>) -> Result<Vec
     requires { IsStatusCode status }
     ensures { IfOk result (λ out. out.items ≡ form.with_page status page.items) }
 {
+    with_cookie(alloc, CookieChange::Keep, status, page)
+}
+
+/// The reply with a page and a cookie.
+pub(crate) fn with_cookie(
+    alloc: Global,
+    cookie: CookieChange,
+    status: u16,
+    page: Vec<u8>,
+) -> Result<Vec<u8>, AllocError>
+    requires { IsStatusCode status }
+    ensures { IfOk result (λ out. out.items ≡ form.with_cookie cookie status page.items) }
+{
     let reply = PageReply {
         status,
-        cookie: CookieChange::Keep,
+        cookie,
         location: None,
         allow: None,
         page: Sequence::from(page),
@@ -58,23 +70,6 @@ pub(crate) fn refused(
 {
     let page = refusal_page(alloc, refusal, caller, moment)?;
     with_page(alloc, code_of_refusal(refusal), page)
-}
-
-/// The reply with the page on which one signs in, which leads to this page.
-pub(crate) fn sign_in(
-    alloc: Global,
-    status: u16,
-    next: &Page,
-    unknown: bool,
-    elsewhere: bool,
-) -> Result<Vec<u8>, AllocError>
-    requires { IsStatusCode status }
-    ensures { IfOk result (λ out. out.items
-        ≡ form.sign_in status next.now unknown elsewhere) }
-{
-    let place = page_path(alloc, next)?;
-    let page = sign_in_page(alloc, place.as_str(), unknown, elsewhere)?;
-    with_page(alloc, status, page)
 }
 
 /// The cookie of one who signs in: for 30 days, or until the browser ends.

@@ -1,9 +1,8 @@
 //! What a form asks of the desk, and its reply.
 ghost use Rattle.std.specs.Prelude.{◌≡◌, ◌≤◌, [], IfOk, OnErr, OnOk};
-ghost use Rattle.std.specs.Option.{option_and_then, option_map};
+ghost use Rattle.std.specs.Option.{option_and_then};
 ghost use Rattle.std.specs.Vec.{vec_capacity};
 ghost use Rattle.desk_model.specs.Step.{refusal_beforehand};
-ghost use Rattle.page_core.specs.Page.{page_bytes};
 ghost use Rattle.service_core.specs.Leaves.{LeavesDesk};
 ghost use Rattle.service_core.specs.Seen.{settings_of, tables_of};
 ghost use Rattle.page_wire.specs.Forms.{FormStepsOn, StepsUnrefusedOn, refused_before as refused_first};
@@ -13,12 +12,8 @@ ghost use Rattle.wire_core.specs.Steps.{StaysOn};
 
 use crate::follow_up::run_follow_up;
 use crate::next::{follow_up_command, next_text};
-use crate::replies::with_page;
+use crate::unsent::refused_reply;
 use desk_core::{Answer, Command, Refusal, refusal_without_facts};
-use desk_pages::{
-    Typed, ask_refusal_page, comment_refusal_page, refusal_page, reply_refusal_page,
-    request_refusal_page,
-};
 use hours_core::Minute;
 use page_routes::SubmittedForm;
 use service_core::Desk;
@@ -26,7 +21,6 @@ use settings_core::Settings;
 use std::alloc::{AllocError, Global};
 use store_core::Backend;
 use text_core::Text;
-use wire_core::code_of_refusal;
 
 /// Does what a form asks for, its second command only where the first isn't refused, and puts its
 /// reply into the room. What the second would be refused for on every desk is refused before the
@@ -52,11 +46,7 @@ pub(crate) fn submit_form<S: Backend>(
 {
     match refused_before(alloc, desk.settings(), caller, sent, moment) {
         Ok(None) => submit_both(alloc, caller, command, sent, moment, desk, room),
-        Ok(Some(refusal)) => {
-            let told = put_refused(alloc, caller, moment, sent, &refusal, room);
-            drop(refusal);
-            told
-        }
+        Ok(Some(refusal)) => put_refused(alloc, caller, moment, sent, refusal, room),
         Err(_) => Err(AllocError),
     }
 }
@@ -146,7 +136,7 @@ fn submit<S: Backend>(
             drop(answer);
             Ok(())
         }
-        Err(refusal) => put_refused(alloc, caller, moment, sent, &refusal, room),
+        Err(refusal) => put_refused(alloc, caller, moment, sent, refusal, room),
     }
 }
 
@@ -156,11 +146,11 @@ fn put_refused(
     caller: &str,
     moment: Minute,
     sent: &SubmittedForm,
-    refusal: &Refusal,
+    refusal: Refusal,
     room: &mut Vec<u8>,
 ) -> Result<(), AllocError>
     ensures ok { OnOk result (room.new.items
-        ≡ form.refused_reply caller.now moment sent.now refusal.now) }
+        ≡ form.refused_reply caller.now moment sent.now refusal) }
     ensures err { OnErr result (room.new ≡ room.old) }
 {
     match refused_reply(alloc, caller, moment, sent, refusal) {
@@ -169,68 +159,5 @@ fn put_refused(
             Ok(())
         }
         Err(_) => Err(AllocError),
-    }
-}
-
-fn refused_reply(
-    alloc: Global,
-    caller: &str,
-    moment: Minute,
-    sent: &SubmittedForm,
-    refusal: &Refusal,
-) -> Result<Vec<u8>, AllocError>
-    ensures { IfOk result (λ out. out.items
-        ≡ form.refused_reply caller.now moment sent.now refusal.now) }
-{
-    let page = refused_page(alloc, caller, moment, sent, refusal)?;
-    with_page(alloc, code_of_refusal(refusal), page)
-}
-
-/// The page of a refused form, with what was typed into it, and what was chosen.
-fn refused_page(
-    alloc: Global,
-    caller: &str,
-    moment: Minute,
-    sent: &SubmittedForm,
-    refusal: &Refusal,
-) -> Result<Vec<u8>, AllocError>
-    ensures { IfOk result (λ page. page.items
-        ≡ page_bytes (form.refused_form caller.now moment sent.now refusal.now)) }
-{
-    match sent {
-        SubmittedForm::Queue => refusal_page(alloc, refusal, caller, moment),
-        SubmittedForm::New {
-            queue,
-            subject,
-            requestors,
-            text,
-            status,
-        } => {
-            let typed = Typed {
-                subject: subject.as_str(),
-                text: text.as_str(),
-                requestors: requestors.as_str(),
-            };
-            let (queue, status) = (queue.as_str(), as_str(status));
-            ask_refusal_page(alloc, refusal, caller, moment, queue, typed, status)
-        }
-        SubmittedForm::Reply { id, text, status } => {
-            let status = as_str(status);
-            reply_refusal_page(alloc, refusal, caller, moment, *id, text.as_str(), status)
-        }
-        SubmittedForm::Comment { id, text } => {
-            comment_refusal_page(alloc, refusal, caller, moment, *id, text.as_str())
-        }
-        SubmittedForm::Change { id } => request_refusal_page(alloc, refusal, caller, moment, *id),
-    }
-}
-
-/// The status that was chosen.
-fn as_str(status: &Option<Text>) -> Option<&str>
-    ensures { option_map (λ s. s.now) result ≡ status.now }
-{
-    match status {
-        Some(status) => Some(status.as_str()),
-        None => None,
     }
 }

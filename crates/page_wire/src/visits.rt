@@ -9,8 +9,10 @@ ghost use Rattle.wire_core.specs.Steps.{StaysOn};
 
 use crate::faults::clock_reply;
 use crate::render::render_page;
-use crate::replies::{cookie_for, leads_to, sign_in};
+use crate::replies::{cookie_for, leads_to};
+use crate::sign_in::{sign_in, sign_in_to};
 use crate::submit::submit_form;
+use crate::unsent::{other_person_reply, resumed_reply};
 use desk_core::Command;
 use desk_style::style_sheet;
 use hours_core::Minute;
@@ -52,6 +54,29 @@ pub(crate) fn make_visit<S: Backend>(
             },
             Some(moment),
         ) => submit_form(alloc, caller.as_str(), command, sent, moment, desk, room),
+        (
+            PageRequest::OtherPerson {
+                caller,
+                person,
+                sent,
+            },
+            Some(moment),
+        ) => {
+            let made = other_person_reply(alloc, caller.as_str(), moment, person, sent);
+            put(made, room)
+        }
+        (
+            PageRequest::Resumed {
+                caller,
+                cookie,
+                keep,
+                sent,
+            },
+            Some(moment),
+        ) => {
+            let made = resumed_reply(alloc, caller.as_str(), moment, cookie, *keep, sent);
+            put(made, room)
+        }
         _ => put(fixed(alloc, visit), room),
     }
 }
@@ -77,16 +102,17 @@ fn fixed(alloc: Global, visit: &PageRequest) -> Result<Vec<u8>, AllocError>
 {
     match visit {
         PageRequest::Style => sheet_reply(alloc, style_sheet().as_bytes()),
-        PageRequest::SignIn => sign_in(alloc, 200, &Page::Home, false, false),
+        PageRequest::SignIn => sign_in_to(alloc, 200, &Page::Home, false, false),
         PageRequest::SignedIn { cookie, keep, next } => signed_in(alloc, cookie, *keep, next),
         PageRequest::NotSignedIn { next } => sign_in(alloc, 403, next, true, false),
         PageRequest::SignOut => signed_out(alloc),
         PageRequest::Leads(next) => leads_on(alloc, next),
         PageRequest::Unknown { next, to_get } => sign_in(alloc, 403, next, false, *to_get),
-        PageRequest::Go { id } => leads_on(alloc, &Page::Request(*id)),
-        PageRequest::NoMoment | PageRequest::Look { .. } | PageRequest::Act { .. } => clock_reply(
-            alloc,
-        ),
+        PageRequest::NoMoment
+        | PageRequest::Look { .. }
+        | PageRequest::Resumed { .. }
+        | PageRequest::OtherPerson { .. }
+        | PageRequest::Act { .. } => clock_reply(alloc),
     }
 }
 

@@ -24,7 +24,7 @@
 #![tactic(auto)]
 
 pub mod alike;
-mod answer_text;
+mod as_text;
 mod attach;
 pub mod desk;
 mod dossier;
@@ -43,7 +43,7 @@ mod sight;
 mod stays;
 mod stream;
 
-pub use answer_text::AnswerText;
+pub use as_text::AnswerText;
 pub use attach::knows_tables;
 pub use desk::Desk;
 pub use desk_reports::StreamFault;

@@ -1,8 +1,9 @@
 //! The form for a new request.
 
-/// The queue, the subject, the first text, the requestors and the caller; whether there are
-/// statuses to choose from.
+/// The queue, the caller, the subject, the first text, the requestors and the caller; whether there
+/// are statuses to choose from.
 pub(crate) const ASK: &str = r#"<form class="sheet" method="post" action="/desk/queues/{}/new">
+<input type="hidden" name="me" value="{}">
 <label for="subject">What is it about?</label>
 <input id="subject" name="subject" value="{}" dir="auto" required>
 <p>One line of at most 200 characters.</p>

@@ -1,7 +1,8 @@
 //! The forms by which a request gets another level, other watchers and other links.
 
-/// The number of the request.
+/// The number of the request, and the caller.
 pub(crate) const LEVEL_TOP: &str = r#"<form method="post" action="/desk/requests/{}/level">
+<input type="hidden" name="me" value="{}">
 <label for="level">Level</label>
 <select id="level" name="level">
 <option value="">none</option>
@@ -12,8 +13,9 @@ pub(crate) const LEVEL_END: &str = r#"</select>
 </form>
 "#;
 
-/// The number of the request, twice.
+/// The number of the request, the caller, and the number of the request.
 pub(crate) const WATCHING: &str = r#"<form method="post" action="/desk/requests/{}/watch">
+<input type="hidden" name="me" value="{}">
 <label for="role">Role</label>
 <select id="role" name="role"><option>requestor</option><option>cc</option><option>admincc</option></select>
 <label for="who">Person</label>
@@ -23,8 +25,9 @@ pub(crate) const WATCHING: &str = r#"<form method="post" action="/desk/requests/
 </form>
 "#;
 
-/// The number of the request, what a number is, and the number of the request.
+/// The number of the request, the caller, what a number is, and the number of the request.
 pub(crate) const LINKING: &str = r#"<form method="post" action="/desk/requests/{}/link">
+<input type="hidden" name="me" value="{}">
 <label for="kind">Link</label>
 <select id="kind" name="kind"><option>DependsOn</option><option>DependedOnBy</option><option>MemberOf</option><option>HasMember</option><option>RefersTo</option><option>ReferredToBy</option></select>
 <label for="other">Request</label>

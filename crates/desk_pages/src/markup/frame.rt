@@ -8,7 +8,7 @@ pub(crate) const TOP: &str = r##"<!DOCTYPE html>
 <meta name="viewport" content="width=device-width, initial-scale=1">
 <meta name="color-scheme" content="light dark">
 <title>{} – Desk</title>
-<link rel="stylesheet" href="/style.css?3">
+<link rel="stylesheet" href="/style.css?5d8573b1">
 </head>
 <body>
 <a class="skip" href="#main">Skip to the content</a>
@@ -20,7 +20,7 @@ pub(crate) const TOP: &str = r##"<!DOCTYPE html>
 <a href="/desk/overdue"[ aria-current="page"]>Late</a>
 <a href="/desk/workload"[ aria-current="page"]>Workload</a>
 </nav>
-<form method="post" action="/desk/go"><label>Request <input name="number" inputmode="numeric" pattern="{}" title="The number of a request" autocomplete="off" required></label> <button>Go</button></form>
+<form role="search" action="/desk/go"><input type="search" name="q" aria-label="Words, or the number of a request" placeholder="Words, or a number" autocomplete="off" enterkeyhint="search"> <button>Go</button></form>
 <form method="post" action="/sign-out"><b>{}</b> <button>Sign out</button></form>
 </header>
 <main id="main">
@@ -41,7 +41,7 @@ pub(crate) const BARE_TOP: &str = r#"<!DOCTYPE html>
 <meta name="viewport" content="width=device-width, initial-scale=1">
 <meta name="color-scheme" content="light dark">
 <title>{} – Desk</title>
-<link rel="stylesheet" href="/style.css?3">
+<link rel="stylesheet" href="/style.css?5d8573b1">
 </head>
 <body class="bare">
 <main>

@@ -27,10 +27,11 @@ pub(crate) const QUEUES_END: &str = r#"</tbody>
 </table>
 "#;
 
-/// The form for another queue, up to the lifecycles.
+/// The form for another queue, up to the lifecycles: the caller.
 pub(crate) const OPENING_TOP: &str = r#"<details>
 <summary>Open a queue</summary>
 <form class="sheet" method="post" action="/desk/queues">
+<input type="hidden" name="me" value="{}">
 <label for="queue">Name</label>
 <input id="queue" name="queue" autocapitalize="none" spellcheck="false" autocomplete="off" required>
 <p>1 to 20 of a to z, 0 to 9, - and _, the first a letter.</p>

@@ -1,7 +1,8 @@
 //! The moves of a request that are offered.
 
-/// The number of the request.
+/// The number of the request, and the caller.
 pub(crate) const MOVES_TOP: &str = r#"<form method="post" action="/desk/requests/{}/status">
+<input type="hidden" name="me" value="{}">
 <fieldset>
 <legend>Move it to</legend>
 "#;

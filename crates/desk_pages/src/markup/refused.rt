@@ -10,6 +10,12 @@ pub(crate) const NOTICE: &str = r#"<h1>{}</h1>
 <p class="alert">{}{}{} <code>refused {} {}[ ]{}</code></p>
 "#;
 
+/// The heading; what is said before the caller, the caller, what is said between, another person, and
+/// what is said after that.
+pub(crate) const NOTE: &str = r#"<h1>{}</h1>
+<p class="alert">{}{}{}{}{}</p>
+"#;
+
 pub(crate) const TYPED_TOP: &str = r#"<div class="write">
 "#;
 

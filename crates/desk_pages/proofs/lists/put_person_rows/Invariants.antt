@@ -9,4 +9,4 @@ abbrev pub invariant-loop-name : goal.invariant-loop-name
 invariant-loop-name l =
     l.out.items
     ≡ l.initial.out.items
-    ++ page_bytes (flat_map (person_row l.buttons l.id l.role) (take l.name-index l.names))
+    ++ page_bytes (flat_map (person_row l.buttons l.id l.caller l.role) (take l.name-index l.names))

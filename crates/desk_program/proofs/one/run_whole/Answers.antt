@@ -13,7 +13,7 @@ returns-in-Ok-clause-printed g c = (
   c.into_text-text.result.items,
   stepped (settings_of g.S.Store c.args.desk.now) c.args.at c.args.caller.now c.args.command.now
       c.in-Ok.told.outcome (has_write_failed c.put.new.self)
-      (tables_of g.S.Store c.args.desk.now) (tables_of g.S.Store c.told.new.self)
+      (tables_of g.S.Store c.args.desk.now) (tables_of g.S.Store c.execute_as_text.new.self)
       c.into_text-text.result.items (code_of c.status_of-status.result)
       (ap (λ v. v.items) c.into_text-text.ensures ∙ c.in-Ok.ensures.ok.told)
       c.status_of-status.ensures c.in-Ok.ensures.ok.step,
@@ -25,13 +25,13 @@ returns-in-Err-clause-printed g c = (
   unavailable_text,
   stepped (settings_of g.S.Store c.args.desk.now) c.args.at c.args.caller.now c.args.command.now
       (Err Unavailable) (has_write_failed c.put_unavailable.new.output)
-      (tables_of g.S.Store c.args.desk.now) (tables_of g.S.Store c.told.new.self)
+      (tables_of g.S.Store c.args.desk.now) (tables_of g.S.Store c.execute_as_text.new.self)
       unavailable_text 1 refl refl c.in-Err.ensures.err,
   c.put_unavailable.ensures.printed,
 )
 
 pub returns-in-Ok-clause-honest : goal.returns-in-Ok-clause-honest
-returns-in-Ok-clause-honest g c = c.told.ensures.left.clean
+returns-in-Ok-clause-honest g c = c.execute_as_text.ensures.left.clean
 
 pub returns-in-Err-clause-honest : goal.returns-in-Err-clause-honest
-returns-in-Err-clause-honest g c = c.told.ensures.left.clean
+returns-in-Err-clause-honest g c = c.execute_as_text.ensures.left.clean

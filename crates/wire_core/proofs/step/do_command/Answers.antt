@@ -13,7 +13,7 @@ returns-in-Ok-clause-ok g c =
     (λ told. done (settings_of g.S.Store c.args.desk.now)
     (ask_by c.args.at c.args.caller.now c.args.command.now) c.args.head_only
     c.in-Ok.told.outcome (held_in c.put_told.new.room)
-    (tables_of g.S.Store c.args.desk.now) (tables_of g.S.Store c.told.new.self)
+    (tables_of g.S.Store c.args.desk.now) (tables_of g.S.Store c.execute_as_text.new.self)
     told c.in-Ok.ensures.ok.step)
     c.put_told.ensures.ok
 
@@ -24,7 +24,7 @@ returns-in-Ok-clause-err g c =
       untold.0,
       unavailable_stays (settings_of g.S.Store c.args.desk.now)
           (ask_by c.args.at c.args.caller.now c.args.command.now)
-          (tables_of g.S.Store c.args.desk.now) (tables_of g.S.Store c.told.new.self)
+          (tables_of g.S.Store c.args.desk.now) (tables_of g.S.Store c.execute_as_text.new.self)
           (c.in-Ok.ensures.ok.long untold.1),
     ))
     c.put_told.ensures.err
@@ -40,6 +40,6 @@ returns-in-Err-clause-err g c = (
   refl,
   unavailable_stays (settings_of g.S.Store c.args.desk.now)
       (ask_by c.args.at c.args.caller.now c.args.command.now)
-      (tables_of g.S.Store c.args.desk.now) (tables_of g.S.Store c.told.new.self)
+      (tables_of g.S.Store c.args.desk.now) (tables_of g.S.Store c.execute_as_text.new.self)
       c.in-Err.ensures.err,
 )

@@ -1,0 +1,46 @@
+-- Why a form wasn't sent, and what is said of it.
+use Rattle.std.specs.Prelude.{ℕ, Bool, List, [], ◌∷◌, ◌++◌, codes, Option, Some, None}
+use Rattle.page_core.specs.Page.{Part}
+use Rattle.page_core.specs.Template.{filled}
+use Rattle.desk_pages.specs.Pieces.{quote}
+use Rattle.desk_pages.specs.Refused.{heading_of, is_denied, notice_of}
+use Rattle.desk_pages.specs.declared.markup.refused.TheConstants.{NOTE}
+use Rattle.desk_pages.specs.declared.unsent.Unsent.{Unsent}
+use Rattle.desk_pages.specs.declared.unsent.Unsent.TheVariants.{Refused, OtherPerson, SignedIn}
+
+-- it stood on another person's page
+unfoldable pub other_heading : List ℕ
+other_heading = codes "This form was another person" ++ (quote ++ codes "s")
+
+unfoldable pub other_note : List ℕ → List ℕ → List Part
+other_note caller person =
+    filled NOTE.now
+    (other_heading ∷ codes "You are signed in as " ∷ caller ∷ codes " now. This form was "
+    ∷ person ∷ (quote ++ codes "s: nothing was sent.") ∷ []) []
+
+-- nobody was signed in, and now the caller is
+unfoldable pub own_heading : List ℕ
+own_heading = codes "You are signed in"
+
+unfoldable pub own_note : List ℕ → List Part
+own_note caller =
+    filled NOTE.now
+    (own_heading ∷ codes "You are signed in as " ∷ caller
+    ∷ codes ", but nothing was sent yet. Look at what you typed, and press the button."
+    ∷ [] ∷ [] ∷ []) []
+
+-- the heading, and what is said to a caller
+abbrev pub title_of : Unsent → List ℕ
+title_of (Refused refusal) = heading_of refusal
+title_of (OtherPerson person) = other_heading
+title_of SignedIn = own_heading
+
+abbrev pub said_of : Unsent → List ℕ → List Part
+said_of (Refused refusal) caller = notice_of refusal
+said_of (OtherPerson person) caller = other_note caller person
+said_of SignedIn caller = own_note caller
+
+-- what the markup tells: whether the desk refused it, and then whether a right is lacking
+abbrev pub why_told : Unsent → Option Bool
+why_told (Refused refusal) = Some (is_denied refusal)
+why_told other = None

@@ -1,0 +1,78 @@
+//! Why a form wasn't sent, and what is said of it.
+ghost use Rattle.std.specs.Prelude.{◌≡◌, ◌++◌, OnOk};
+ghost use Rattle.page_core.specs.Page.{page_bytes};
+ghost use Rattle.desk_pages.specs.Unsent as form;
+
+use crate::markup::refused::NOTE;
+use crate::refused::{heading_of, put_refusal};
+use desk_model::Refusal;
+use page_core::{Value, fill};
+use std::alloc::AllocError;
+use text_core::Text;
+
+/// Why a form wasn't sent.
+#[derive(Drop)]
+pub enum Unsent {
+    /// The desk refused it.
+    Refused(Refusal),
+    /// It stood on the page of this person, who isn't the caller.
+    OtherPerson(Text),
+    /// Nobody was signed in; the caller signed in then.
+    SignedIn,
+}
+
+/// The heading of what is said of it.
+#[tactic(auto, unfolding(crate::specs::Unsent::other_heading, crate::specs::Unsent::own_heading))]
+pub(crate) fn title_of(why: &Unsent) -> &'static str
+    ensures { result.now ≡ form.title_of why.now }
+{
+    match why {
+        Unsent::Refused(refusal) => heading_of(refusal),
+        Unsent::OtherPerson(_) => "This form was another person’s",
+        Unsent::SignedIn => "You are signed in",
+    }
+}
+
+/// Puts what is said of it to a caller.
+pub(crate) fn put_why(out: &mut Vec<u8>, why: &Unsent, caller: &str) -> Result<(), AllocError>
+    ensures { OnOk result (out.new.items
+        ≡ out.old.items ++ page_bytes (form.said_of why.now caller.now)) }
+{
+    match why {
+        Unsent::Refused(refusal) => put_refusal(out, refusal),
+        Unsent::OtherPerson(person) => put_other(out, caller, person.as_str()),
+        Unsent::SignedIn => put_signed_in(out, caller),
+    }
+}
+
+#[tactic(auto, unfolding(crate::specs::Unsent::other_heading, crate::specs::Unsent::other_note))]
+fn put_other<'t>(out: &mut Vec<u8>, caller: &'t str, person: &'t str) -> Result<(), AllocError>
+    ensures { OnOk result (out.new.items
+        ≡ out.old.items ++ page_bytes (form.other_note caller.now person.now)) }
+{
+    let values = [
+        Value::Text("This form was another person’s"),
+        Value::Text("You are signed in as "),
+        Value::Text(caller),
+        Value::Text(" now. This form was "),
+        Value::Text(person),
+        Value::Text("’s: nothing was sent."),
+    ];
+    fill(out, NOTE, &values, &[])
+}
+
+#[tactic(auto, unfolding(crate::specs::Unsent::own_heading, crate::specs::Unsent::own_note))]
+fn put_signed_in(out: &mut Vec<u8>, caller: &str) -> Result<(), AllocError>
+    ensures { OnOk result (out.new.items
+        ≡ out.old.items ++ page_bytes (form.own_note caller.now)) }
+{
+    let values = [
+        Value::Text("You are signed in"),
+        Value::Text("You are signed in as "),
+        Value::Text(caller),
+        Value::Text(", but nothing was sent yet. Look at what you typed, and press the button."),
+        Value::Text(""),
+        Value::Text(""),
+    ];
+    fill(out, NOTE, &values, &[])
+}
