@@ -333,7 +333,8 @@ class Plan:
         """What would have come by lot too seldom."""
         one, queue = self.one(self.live), self.choose.choice(list(QUEUES))
         by = self.helper(one.queue.name if one else queue)
-        asks = [make(self.choose, self.desk, self.office.present(), at, way) for make in (seldom.untold, seldom.by_role)]
+        asks = [make(self.choose, self.desk, self.office.present(), at, way)
+                for make in (seldom.untold, seldom.by_role)]
         if way == "page" and asks[0]:
             asks.append(seldom.searched(self.choose, asks[0]))
         asks.append(seldom.empty(self.choose, at, way, by, queue, one.number if one else 1))
@@ -346,14 +347,15 @@ class Plan:
 
     def refused_seldom(self, at, way):
         """Of some tries, that whose refusal was seen least so far, or None."""
-        kinds = [self.trespass, self.file, self.take, self.answer, self.comment, self.move, self.hand, self.people, self.link]
+        kinds = [self.trespass, self.file, self.take, self.answer, self.comment, self.move, self.hand, self.people,
+                 self.link]
         tries = [self.choose.choice(kinds)(at, way) for _ in range(TRIES)]
         tries = [it for it in tries if it and it.way == way and not it.reads]
         for ask in tries[::2]:
             ask.by = self.anyone()
         refused = [(refusal_of(self.desk, it), it) for it in tries]
         why, ask = min((it for it in refused if it[0]), key=lambda it: self.refusals[it[0]], default=(None, None))
-        self.refusals[why] += 1
+        self.refusals[why] += why is not None
         return ask
 
     def in_a_field(self, at, way):

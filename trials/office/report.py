@@ -92,7 +92,8 @@ def page(trial, given, seconds):
         "## What was asked", table(("By", "Done", "Refused"), ways(figures)),
         "Of each kind and way, how often it was done / refused, and by which refusals:",
         table(("What", *HEADS, "Refused by"), kinds(figures)),
-        "`find` is a search on a page. A form that was answered by a page of its own counts once. Hostile texts "
+        "`find` is a search on a page. A form that was answered by a page of its own counts once. These met "
+        f"{len(figures.refusals())} different refusals, each counted once for a command or reading. Hostile texts "
         f"stood in each of {len({it[1:] for it in figures.fields})} fields, of some in several ways: {len(figures.fields)}.",
         "What would have come too seldom by lot was made to happen each day, if there was occasion for it:",
         table(("What", *HEADS), seldom(figures)),
