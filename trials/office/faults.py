@@ -9,10 +9,11 @@ from client import message, parts_of
 
 from office import expected, kept
 from office.asks import Ask, line
+from office.browser import Browser
 from office.figures import outcome
 from office.server import Server
 from office.settle import Saved, Settled, is_unavailable, number_filed, wanted
-from office.ways import reply_to
+from office.ways import Messages, reply_to
 
 PAGE = 4096
 ROOM = 3 << 30
@@ -96,9 +97,11 @@ def copied(trial):
 
 
 def copy(trial, at, lookers):
-    """A copy is the desk of that moment: its tables are, and a second desk on it answers as the first."""
+    """A copy is the desk of that moment: it has the tables of the first and of the model, and a second desk on it
+    answers as the first, and goes on from there by itself."""
     trial.up()
     path = copied(trial)
+    trial.need("a copy beside its desk", kept.unlike(path, trial.programs.path("desk.db")), None)
     differs, rows = kept.difference(path, trial.desk)
     trial.need("the copy", differs, None)
     trial.figures.compared["rows of tables"] += rows
@@ -108,6 +111,8 @@ def copy(trial, at, lookers):
     try:
         for person in lookers:
             alike(trial, second, at, person)
+            alike_in_a_browser(trial, second, at, person)
+        goes_on(trial, second, at)
     finally:
         second.kill(signal.SIGKILL)
         for ends in ("", "-wal"):
@@ -118,15 +123,32 @@ def copy(trial, at, lookers):
 
 def alike(trial, second, at, person):
     """The second desk tells a person what the model does."""
-    token = trial.tokens[person]
     number = max(1, len(trial.desk.requests))
     asks = [Ask(at, "http", person, name) for name in ("queues", "overdue", "workload")]
     asks += [Ask(at, "http", person, "ls", [name]) for name in trial.desk.by_name]
     asks += [Ask(at, "http", person, name, [number]) for name in ("show", "history")]
-    messages = type(trial.messages)(second.port, {person: token}, trial.programs.clock)
+    messages = Messages(second.port, trial.tokens, trial.programs.clock)
     for ask in asks:
         trial.need(f"of the second desk: {ask}", messages.answer(ask), expected.by_message(trial.desk, ask))
     trial.figures.compared["answers of a second desk"] += len(asks)
+
+
+def alike_in_a_browser(trial, second, at, person):
+    """The second desk's pages are those of the model. Nobody is signed in there."""
+    browser, number = Browser(trial.programs.clock), max(1, len(trial.desk.requests))
+    browser.moved(second.port, trial.tokens)
+    pages = [("home", "/"), ("workload", "/desk/workload"), ("request", f"/desk/requests/{number}", number)]
+    for name, path, *words in pages:
+        wanted_of = expected.by_page(trial.desk, Ask(at, "page", person, "show"), name, *words)
+        trial.need(f"of the second desk: {path} for {person}", browser.page(person, name, path), wanted_of)
+    trial.figures.compared["pages of a second desk"] += len(pages)
+
+
+def goes_on(trial, second, at):
+    """The next request there has the next number. The first desk hears nothing of it, as its tables show at night."""
+    messages = Messages(second.port, trial.tokens, trial.programs.clock)
+    ask = Ask(at, "http", trial.admin(), "create", ["support", "filed on the second desk", None, []])
+    trial.need("a filing on the second desk", messages.answer(ask), (201, f"request {len(trial.desk.requests) + 1}\n"))
 
 
 # ---- loads
@@ -152,7 +174,7 @@ def load(trial, asks, killed):
 
 def answered(trial, ask, seconds):
     """What a line is answered."""
-    told = wanted(trial.desk, ask)
+    told = trial.told(ask)
     trial.figures.answered(ask, outcome(told), seconds)
     if ask.name == "create" and ask.key and number_filed(told):
         trial.numbers[ask.key] = number_filed(told)

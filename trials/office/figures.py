@@ -4,6 +4,8 @@ import os
 import resource
 import statistics
 
+from rules import REFUSALS
+
 # the ways that a picture has together; all others are pages
 GROUPS = {"http": "the interface", **dict.fromkeys(("shell", "file", "load"), "the programs of the command line")}
 
@@ -15,6 +17,7 @@ class Figures:
         self.by_hour, self.asked_by_hour = collections.defaultdict(list), collections.Counter()
         self.faults, self.sessions = collections.Counter(), collections.Counter()
         self.nights, self.loads, self.fields = [], [], set()
+        self.seldom = collections.Counter()
         self.compared = collections.Counter()
 
     def answered(self, ask, code, seconds):
@@ -36,6 +39,10 @@ class Figures:
     def usual(self):
         """The seconds that an answer of the interface takes here."""
         return statistics.median(self.times["http"][-200:] or [0.002])
+
+    def refusals(self):
+        """The commands and readings with the refusals that they met."""
+        return {(name, code) for _, name, code in self.answers if code in REFUSALS}
 
     def total(self):
         return sum(self.answers.values())

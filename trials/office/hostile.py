@@ -26,12 +26,10 @@ CHOICES = {"state": ["open", "closed"], "replies": ["yes"], "late": ["yes"],
            "order": ["newest", "oldest", "due", "due-last", "active", "quiet"]}
 
 
-def hostile(choose, at, way, by, queue, number):
-    """A command or a search with a hostile text in one field, chosen by lot, and that field. Its other words are
-    in order."""
-    name, field = choose.choice(EACH)
+def hostile(choose, name, field, at, way, by, queue, number):
+    """A command or a search with a hostile text in that field. Its other words are in order."""
     if name == "find":
-        return Ask(at, "page", by, "find", [{field: choose.choice(fitting(field, "page"))}]), field
+        return Ask(at, "page", by, "find", [{field: choose.choice(fitting(field, "page"))}])
     place = FIELDS[name][field]
     if place is None:
         way = "page"
@@ -43,7 +41,7 @@ def hostile(choose, at, way, by, queue, number):
         ask.then = text
     else:
         ask.words[place] = [text] if field == "requestors" else text
-    return ask, field
+    return ask
 
 
 def is_of_address(name, field):

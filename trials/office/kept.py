@@ -29,6 +29,22 @@ def all_rows(tables):
     return {name: set(tables.execute(f"SELECT {columns} FROM {name}")) for name, columns in COLUMNS.items()}
 
 
+def everything(path):
+    """All that a file has: its tables and indexes as they were made, and the rows of each table."""
+    with opened(path) as tables:
+        made = set(tables.execute("SELECT type, name, sql FROM sqlite_master"))
+        return made, {name: set(tables.execute(f"SELECT * FROM {name}")) for kind, name, _ in made if kind == "table"}
+
+
+def unlike(path, other):
+    """What two files don't have alike, or None."""
+    (made, rows), (made_there, rows_there) = everything(path), everything(other)
+    if made != made_there:
+        return f"{made} beside {made_there}"
+    return next((f"{name}: {sorted(rows[name] ^ rows_there[name], key=repr)[:3]} in one alone" for name in rows
+                 if rows[name] != rows_there[name]), None)
+
+
 def rows_of_model(desk):
     rows = {name: set() for name in COLUMNS}
     for name, row in rows_for(desk):
@@ -81,4 +97,4 @@ def filed_after(tables, count):
     return tables.execute("SELECT id, subject FROM request WHERE id > ? ORDER BY id", (count,)).fetchall()
 
 
-__all__ = ["ENTRIES", "ROLES", "difference", "filed_after", "opened", "rows_at", "rows_here"]
+__all__ = ["ENTRIES", "ROLES", "difference", "filed_after", "opened", "rows_at", "rows_here", "unlike"]

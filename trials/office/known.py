@@ -1,5 +1,6 @@
 """The model of the rules, made quick: rights, due moments and what searches look at are kept until they can
 change. Each change of a request makes an entry, so what was found for a number of entries stays true."""
+import collections
 import functools
 
 import finding
@@ -26,11 +27,11 @@ class Desk(rules.Desk):
 
     def __init__(self, settings):
         super().__init__(settings)
-        self.dues, self.shown, self.sights = {}, {}, {}
+        self.dues, self.shown, self.sights = {}, collections.defaultdict(dict), {}
 
     def with_settings(self, settings):
         """The same desk after a start with other settings."""
-        self.settings, self.dues, self.shown, self.sights = settings, {}, {}, {}
+        self.settings, self.dues, self.shown, self.sights = settings, {}, collections.defaultdict(dict), {}
         for queue in self.by_name.values():
             queue.lifecycle = settings.lifecycles.get(queue.lifecycle.name, queue.lifecycle)
 
@@ -42,18 +43,18 @@ class Desk(rules.Desk):
         return due
 
     def may_show(self, caller, request):
-        count, may = self.shown.get((caller, request.number), (None, None))
+        of = self.shown[request.number]
+        count, may = of.get(caller, (None, None))
         if count != len(request.entries):
             may = super().may_show(caller, request)
-            self.shown[caller, request.number] = len(request.entries), may
+            of[caller] = len(request.entries), may
         return may
 
     def forget(self, numbers):
         """What was kept of these requests is found anew."""
         for number in numbers:
             self.dues.pop(number, None)
-            for key in [key for key in self.shown if key[1] == number]:
-                del self.shown[key]
+            self.shown.pop(number, None)
             for sights in self.sights.values():
                 sights.pop(number, None)
 

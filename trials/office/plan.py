@@ -1,18 +1,23 @@
 """The steps of so many days of an office, made from a seed. A model of the plan's own says which requests
 there are, so that people do what they would do. Steps name requests by the numbers of that model."""
+import collections
 import datetime
+import functools
 import random
 
 import rules
 
-from office import texts
+from office import seldom, texts
 from office.asks import Ask, commands
-from office.hostile import hostile, unspelled
+from office.hostile import EACH, hostile, unspelled
 from office.known import Desk, Known
+from office.settle import refusal_of
 from office.setup import QUEUES, Office, working_days
 
 FIRST_DAY = datetime.date(2026, 3, 23)
 ASKS_A_DAY, NIGHT_LINES, HOSTILE_A_DAY = 240, 14, 12
+# among how many tries the one is chosen whose refusal was seen least
+TRIES = 30
 KINDS = ["DependsOn", "MemberOf", "RefersTo"]
 ROLES = ["requestor", "cc", "admincc"]
 
@@ -22,7 +27,7 @@ class Plan:
         self.choose, self.asks = random.Random(seed), asks
         self.office = Office(self.choose)
         self.desk = Desk(Known(self.office.text()))
-        self.steps, self.live, self.closed = [], [], []
+        self.steps, self.live, self.closed, self.fields, self.refusals = [], [], [], [], collections.Counter()
         self.begin(working_days(first, days)[0])
         for number, day in enumerate(working_days(first, days)):
             self.day(number, day)
@@ -72,6 +77,8 @@ class Plan:
             put(self.strange)
         for _ in range(HOSTILE_A_DAY):
             put(self.field)
+        for way in ("page", "http", "shell"):
+            put(functools.partial(self.do_seldom, way))
         return sorted(some, key=lambda it: it[0])
 
     def night(self, number, day):
@@ -79,11 +86,13 @@ class Plan:
         for _ in range(NIGHT_LINES):
             at += self.choose.randrange(10)
             lines += self.played(self.some(at, "load"))
-        lines += self.played(self.in_a_field(at, "load")[0])
+        for ask in [self.in_a_field(at, "load")[0], *self.seldom(at, "load")]:
+            lines += self.played(ask)
         files = []
         for _ in range(2):
             files += self.played(self.some(at + 1, "file"))
-        files += self.played(self.in_a_field(at + 1, "file")[0])
+        for ask in [self.in_a_field(at + 1, "file")[0], *self.seldom(at + 1, "file")]:
+            files += self.played(ask)
         self.add("load", at, asks=[it.table() for it in lines], killed=self.choose.random() < 0.2)
         self.add("file", at + 1, asks=[it.table() for it in files])
         if number % 10 == 3:
@@ -275,15 +284,15 @@ class Plan:
             by = choose.choice([it for it in sorted(asking) if it in self.office.tokens])
             return Ask(at, way, by, name, [one.number])
         if lot < 0.62 and way == "page":
-            return Ask(at, way, self.anyone(), "find", [self.search()])
+            return Ask(at, way, self.anyone(), "find", [self.search(at)])
         if lot < 0.75:
             queue = choose.choice(list(QUEUES))
             return Ask(at, way, self.helper(queue), "ls", [queue])
         return Ask(at, way, self.anyone(), choose.choice(["queues", "overdue", "workload"]))
 
-    def search(self):
+    def search(self, at):
         choose, fields = self.choose, {}
-        day = (FIRST_DAY + datetime.timedelta(days=choose.randrange(60))).isoformat()
+        day = (datetime.date(1970, 1, 1) + datetime.timedelta(days=at // 1440 - choose.randrange(60))).isoformat()
         lots = {"words": choose.choice([*texts.THINGS, "IS JAMMED", "straße", "<script>", "1"]), "replies": "yes",
                 "queue": choose.choice(list(QUEUES)), "state": choose.choice(["open", "closed"]),
                 "owner": choose.choice(["Me", "Nobody", self.anyone()]),
@@ -320,13 +329,48 @@ class Plan:
                          choose.choice(["default", "nosuch"]), choose.choice([None, "standard", "nosuch"])]),
         ])())
 
+    def seldom(self, at, way):
+        """What would have come by lot too seldom."""
+        one, queue = self.one(self.live), self.choose.choice(list(QUEUES))
+        by = self.helper(one.queue.name if one else queue)
+        asks = [make(self.choose, self.desk, self.office.present(), at, way)
+                for make in (seldom.untold, seldom.by_role)]
+        if way == "page" and asks[0]:
+            asks.append(seldom.searched(self.choose, asks[0]))
+        asks.append(seldom.empty(self.choose, at, way, by, queue, one.number if one else 1))
+        asks += [self.refused_seldom(at, way), self.refused_seldom(at, way)]
+        return [it for it in asks if it]
+
+    def do_seldom(self, way, at):
+        for ask in self.seldom(at, way):
+            self.ask(ask)
+
+    def refused_seldom(self, at, way):
+        """Of some tries, that whose refusal was seen least so far, or None."""
+        kinds = [self.trespass, self.file, self.take, self.answer, self.comment, self.move, self.hand, self.people,
+                 self.link]
+        tries = [self.choose.choice(kinds)(at, way) for _ in range(TRIES)]
+        tries = [it for it in tries if it and it.way == way and not it.reads]
+        for ask in tries[::2]:
+            ask.by = self.anyone()
+        refused = [(refusal_of(self.desk, it), it) for it in tries]
+        why, ask = min((it for it in refused if it[0]), key=lambda it: self.refusals[it[0]], default=(None, None))
+        self.refusals[why] += why is not None
+        return ask
+
     def in_a_field(self, at, way):
-        """A hostile text in a field, by somebody who may fill it in, and the field; none where that way has no
-        such field."""
+        """A hostile text in the next field, by somebody who may fill it in, and the field. Where that way has no
+        such field, none, and the field waits for another way."""
         one, queue = self.one(self.live), self.choose.choice(list(QUEUES))
         by = self.choose.choice([self.office.admin, self.helper(one.queue.name if one else queue)])
-        ask, field = hostile(self.choose, at, way, by, queue, one.number if one else 1)
-        return None if way in ("load", "file") and ask.way != way else self.fit(ask), field
+        if not self.fields:
+            self.fields = self.choose.sample(EACH, len(EACH))
+        name, field = self.fields.pop()
+        ask = hostile(self.choose, name, field, at, way, by, queue, one.number if one else 1)
+        if way in ("load", "file") and ask.way != way:
+            self.fields.insert(0, (name, field))
+            return None, field
+        return self.fit(ask), field
 
     def field(self, at):
         ask, field = self.in_a_field(at, self.choose.choice(["page", "page", "http", "shell"]))

@@ -1,22 +1,30 @@
 """What a page tells, read from its markup: the facts that models/pages.py tells by the rules, as the same
 plain values."""
+import functools
+import html
 import re
-from html.parser import HTMLParser
 
 VOID = {"meta", "link", "input", "br", "hr", "img"}
+# what the desk writes: a tag with its marks in double quotes, or text
+PART = re.compile(r'<!DOCTYPE html>|<(/?)([a-z][a-z0-9]*)((?: [a-z-]+(?:="[^"]*")?)*)>|([^<]+)')
+MARK = re.compile(r' ([a-z-]+)(?:="([^"]*)")?')
 
 
 class Node:
+    __slots__ = "tag", "marks", "above", "parts"
+
     def __init__(self, tag, marks, above):
         self.tag, self.marks, self.above, self.parts = tag, marks, above, []
 
     def all(self, tag, kind=None):
         """All nodes below it of a tag, and of a class."""
-        for part in self.parts:
+        left = self.parts[::-1]
+        while left:
+            part = left.pop()
             if isinstance(part, Node):
                 if part.tag == tag and (kind is None or kind in part.kinds):
                     yield part
-                yield from part.all(tag, kind)
+                left += part.parts[::-1]
 
     def one(self, tag, kind=None):
         return next(self.all(tag, kind), None)
@@ -32,30 +40,32 @@ class Node:
         return " ".join(self.raw().split())
 
 
-class Reader(HTMLParser):
-    def __init__(self, page):
-        super().__init__()
-        self.top = self.at = Node("", {}, None)
-        self.feed(page)
-        self.close()
-
-    def handle_starttag(self, tag, attrs):
-        node = Node(tag, dict(attrs), self.at)
-        self.at.parts.append(node)
-        if tag not in VOID:
-            self.at = node
-
-    def handle_endtag(self, tag):
-        if self.at.tag != tag:
-            raise ValueError(f"</{tag}> where <{self.at.tag}> is open")
-        self.at = self.at.above
-
-    def handle_data(self, data):
-        self.at.parts.append(data)
-
-
+@functools.lru_cache(8)
 def read(page):
-    return Reader(page).top
+    """The top node of a page. Nobody changes it."""
+    top = at = Node("", {}, None)
+    place = 0
+    while place < len(page):
+        found = PART.match(page, place)
+        if found is None:
+            raise ValueError(f"no markup of the desk: {page[place:place + 60]!r}")
+        at, place = after(at, *found.groups()), found.end()
+    return top
+
+
+def after(at, ends, tag, marks, text):
+    """The node in which the next part stands, when this one was put in."""
+    if text:
+        at.parts.append(html.unescape(text))
+    elif ends:
+        if at.tag != tag:
+            raise ValueError(f"</{tag}> where <{at.tag}> is open")
+        return at.above
+    elif tag:
+        node = Node(tag, {name: html.unescape(value) for name, value in MARK.findall(marks)}, at)
+        at.parts.append(node)
+        return at if tag in VOID else node
+    return at
 
 
 # ---- forms

@@ -7,10 +7,12 @@ import statistics
 from tally import TOP
 
 from office.figures import processor_minutes
+from office.seldom import BY_ROLE, EMPTY, UNTOLD
 from office.svg import picture
 
 WAYS = {"page": "a browser's forms and pages", "http": "the interface", "shell": "`desk_ask`",
         "file": "`desk` on the file", "load": "`desk_load`"}
+HEADS = "Pages", "Interface", "`desk_ask`", "`desk`", "`desk_load`"
 
 
 def told(trial, given, seconds):
@@ -20,6 +22,7 @@ def told(trial, given, seconds):
              f"of the processors' time {own:.1f} in the trial and {others:.1f} in the programs"]
     lines += [f"  {name}: {count}" for name, count in sorted(figures.faults.items())]
     lines += [f"  browsers, {name}: {count}" for name, count in sorted(figures.sessions.items())]
+    lines += [f"  {kind}, {way}: {count}" for (kind, way), count in sorted(figures.seldom.items())]
     lines += [f"  compared besides: {count} {name}" for name, count in sorted(figures.compared.items())]
     lines += [f"  {way}: {count}, in the middle {middle:.2f} ms, at most {most:.0f} ms"
               for way, count, middle, most in figures.middles()]
@@ -46,6 +49,11 @@ def kinds(figures):
         yield f"`{name}`", *("–" if it == "0 / 0" else it for it in cells), told_of or "–"
 
 
+def seldom(figures):
+    for kind in (UNTOLD, BY_ROLE, EMPTY):
+        yield kind, *(figures.seldom[kind, way] for way in WAYS)
+
+
 def ways(figures):
     counts = collections.Counter()
     for (way, _, code), count in figures.answers.items():
@@ -55,9 +63,9 @@ def ways(figures):
 
 
 def growth(figures):
-    """The nights, of which ten at most are told."""
+    """Some ten of the nights, the last among them."""
     step = max(1, len(figures.nights) // 10)
-    for at, requests, memory, file, log, home in figures.nights[::step]:
+    for at, requests, memory, file, log, home in figures.nights[::-step][::-1]:
         yield (day_of(at), requests, f"{memory / 1024:.1f}", f"{file / 2**20:.2f}", f"{log / 2**20:.2f}",
                f"{1000 * home:.1f}")
 
@@ -77,15 +85,18 @@ def page(trial, given, seconds):
         f"It took {seconds / 60:.1f} minutes on {len(os.sched_getaffinity(0))} processors, beside other work: the load of the "
         f"machine was {min(figures.loads):.1f} to {max(figures.loads):.1f}, in the middle "
         f"{statistics.median(figures.loads):.1f}. Of the processors' time the trial had {own:.1f} minutes, the model among "
-        f"it, and the programs {others:.1f}. A year has some 250 working days.",
+        f"it, and the programs {others:.1f}.",
         f"{figures.total()} answers were compared with those of [the rules told twice](../models/README.md), and "
         + ", ".join(f"{count} {name}" for name, count in sorted(figures.compared.items()))
         + f". Nothing differed. At its end there were {last[1]} requests.",
         "## What was asked", table(("By", "Done", "Refused"), ways(figures)),
         "Of each kind and way, how often it was done / refused, and by which refusals:",
-        table(("What", "Pages", "Interface", "`desk_ask`", "`desk`", "`desk_load`", "Refused by"), kinds(figures)),
-        "`find` is a search on a page. A form that was answered by a page of its own counts once. Hostile texts "
-        f"stood in {len(figures.fields)} fields, each field of a way counted.",
+        table(("What", *HEADS, "Refused by"), kinds(figures)),
+        "`find` is a search on a page. A form that was answered by a page of its own counts once. These met "
+        f"{len(figures.refusals())} different refusals, each counted once for a command or reading. Hostile texts "
+        f"stood in each of {len({it[1:] for it in figures.fields})} fields, of some in several ways: {len(figures.fields)}.",
+        "What would have come too seldom by lot was made to happen each day, if there was occasion for it:",
+        table(("What", *HEADS), seldom(figures)),
         "![Answers by the hour of the day](year-answers.svg)",
         "## Who was signed in", table(("In a browser", "How often"), sorted(figures.sessions.items())),
         "A quarter of the people tick the box that keeps them signed in, a quarter close the browser in the evening, a "

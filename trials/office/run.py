@@ -6,7 +6,7 @@ import statistics
 import time
 from concurrent.futures import ThreadPoolExecutor
 
-from office import expected, faults, kept, strange, tabs
+from office import expected, faults, kept, seldom, strange, tabs
 from office.asks import PAGES, Ask, form, form_page, numbered, spelled
 from office.browser import Browser, hidden_of
 from office.crowd import Crowd
@@ -158,6 +158,9 @@ class Trial:
 
     def told(self, ask):
         """What the model answers. It makes the step."""
+        kind = seldom.kind_of(self.desk, ask)
+        if kind:
+            self.figures.seldom[kind, ask.way] += 1
         if ask.way == "page" and ask.reads:
             return expected.by_page(self.desk, ask, PAGES[ask.name], *ask.words)
         return wanted(self.desk, ask)

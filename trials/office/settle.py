@@ -79,6 +79,20 @@ def in_some_order(desk, asks, answers, there):
     return first
 
 
+def refusal_of(desk, ask):
+    """How the first of its commands would be refused that is: its name, the refusal and the right; or None. Nothing
+    is changed by it."""
+    saved = Saved(desk, {ask.request()})
+    for name, words in commands(ask, len(desk.requests) + 1):
+        try:
+            desk.ask(ask.at, ask.by, name, words)
+        except Refused as it:
+            return name, it.name, it.right
+        finally:
+            saved.back()
+    return None
+
+
 def make(desk, ask, count):
     """Makes so many of the commands of an ask."""
     filed = len(desk.requests) + 1

@@ -110,7 +110,7 @@ class Office:
         cycle["transitions"][status] = list(after)
 
     def text(self):
-        parts = ["max_requests = 100000\nmax_entries = 60\n", f"persons = {listed(self.persons)}\n"]
+        parts = ["max_requests = 100000\nmax_entries = 20\n", f"persons = {listed(self.persons)}\n"]
         parts += ["[groups]", *(f"{name} = {listed(it)}" for name, it in self.groups.items()), ""]
         parts += [grant(*it) for it in self.grants()]
         parts += ["[tokens]", *(f'{word} = "{name}"' for name, word in self.tokens.items()), ""]
@@ -121,9 +121,9 @@ class Office:
     def grants(self):
         """Who may do what: to whom, the rights, and the queue where it is for one."""
         yield f"person:{self.admin}", ["SuperUser"], None
-        yield "everyone", ["CreateTicket"], None
         for queue, (_, _, group) in QUEUES.items():
             yield f"group:{group}", HELP + ["SeeQueue"], queue
+            yield "everyone" if queue != "projects" else "group:staff", ["CreateTicket"], queue
             if queue != "personnel":
                 yield "everyone", ["SeeQueue"], queue
         yield "role:requestor", ["ShowTicket", "ReplyToTicket", "Watch"], None
