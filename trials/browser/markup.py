@@ -13,7 +13,7 @@ FORBIDDEN = {"script", "style", "img", "iframe", "object", "embed", "base", "svg
 ADDRESSES = {"href", "action", "formaction", "src", "background", "cite", "data", "poster", "ping"}
 # the sentence of what a page may lead to: places of the desk, numbers and names alone, and the
 # fields of a search as they came
-PLACE = re.compile(r"|/|#[a-z]+|/sign-(in|out)|/style\.css\?\d+|/desk/(go|queues|overdue|workload)"
+PLACE = re.compile(r"|/|#[a-z]+|/sign-(in|out)|/style\.css\?[0-9a-f]{8}|/desk/(go|queues|overdue|workload)"
                    r"|/desk/queues/[a-z][a-z0-9_-]{0,19}(/new)?|/desk/requests/\d+(/[a-z]+)?"
                    r"|/desk/find(/(after|before)/(\d+|none)/\d+)?(\?[!-~]*)?")
 FIELDS = {"input", "select", "textarea"}

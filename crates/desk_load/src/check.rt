@@ -2,7 +2,6 @@
 
 use crate::files::read_settings;
 use crate::options::Asked;
-use crate::rehearsal::would_begin;
 use check_core::files::{Finding, first_finding, warnings_of};
 use desk_program::tell_input_fault;
 use std::io;
@@ -17,8 +16,6 @@ const BAD_SETTINGS: u8 = 3;
 /// The exit status where the tables have a fault, or a write failed, or there is no memory.
 const BAD_TABLES: u8 = 4;
 
-const NOTHING_WRONG: &str = "nothing is wrong";
-
 /// Checks the settings and the file of tables, prints what is wrong first, and then a line for each
 /// weak token, and answers the exit status: no token changes it.
 pub fn run(rt: &HostRuntime, asked: &Asked<'_>) -> u8 {
@@ -31,20 +28,12 @@ pub fn run(rt: &HostRuntime, asked: &Asked<'_>) -> u8 {
     }
 }
 
-/// Prints what is wrong first with settings and a file of tables, and answers the exit status. What is
-/// found in the tables counts only where a load doesn't begin over them: it makes those that are
-/// missing.
+/// Prints what is wrong first with settings and a file of tables, and answers the exit status.
 fn tell_finding(rt: &HostRuntime, tables: &str, settings: &[u8]) -> u8 {
     match first_finding(rt, tables, settings) {
-        Ok(None) => print(rt, DONE, NOTHING_WRONG),
+        Ok(None) => print(rt, DONE, "nothing is wrong"),
         Ok(Some(Finding::Settings(told))) => print(rt, BAD_SETTINGS, told.as_str()),
-        Ok(Some(Finding::Tables(told))) => {
-            if would_begin(rt, tables, settings) {
-                print(rt, DONE, NOTHING_WRONG)
-            } else {
-                print(rt, BAD_TABLES, told.as_str())
-            }
-        }
+        Ok(Some(Finding::Tables(told))) => print(rt, BAD_TABLES, told.as_str()),
         Err(_) => print(rt, BAD_TABLES, "out of memory"),
     }
 }

@@ -7,7 +7,6 @@ mod load;
 mod new_token;
 mod options;
 mod progress;
-mod rehearsal;
 mod tables;
 mod usage;
 
