@@ -333,7 +333,7 @@ meter + meter::-moz-meter-bar { background: repeating-linear-gradient(135deg, va
 
 @media print {
   :root { --page: #fff; --sheet: #fff; --ink: #000; --soft: #333; --line: #999; --link: #000; --fill: #000; --late: #000; --late-wash: #fff; --note: #fff; --note-ink: #000 }
-  nav, form, button, .skip, .pills, .paging a, .write, .change, .button, details, .queues td:last-child, .queues th:last-child { display: none }
+  nav, form, button, .skip, .pills, .paging a, .write, .change, .button, details, .queues td:last-child, .queues th:last-child { display: none !important }
   header { border-top: 0 }
   body { font-size: 10pt; display: block }
   main { padding: 0; max-width: none }
