@@ -173,8 +173,8 @@ def of_this_minute(who):
 
 
 @kind(403, "<!DOCTYPE html>")
-def of_the_minute_to_come(who):
-    return by_cookie(sessions.cookie_of(who.token, who.person, who.at + sessions.MONTH + 1))
+def of_minutes_to_come(who):
+    return by_cookie(sessions.cookie_of(who.token, who.person, who.at + sessions.MONTH + 2))
 
 
 @kind(403, "<!DOCTYPE html>")
