@@ -1,3 +1,4 @@
+mod Examples
 pub mod Answering
 pub mod HeadOnly
 pub mod Steps
