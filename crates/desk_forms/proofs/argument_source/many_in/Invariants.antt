@@ -1,7 +1,7 @@
 use Rattle.std.proofs.Common.{◌≡◌, map, drop}
 use Rattle.desk_forms.specs.Kinds.{argument_of}
 use Rattle.desk_forms.specs.Arguments.{many_in}
-use Rattle.desk_forms.proofs.asked.many_in.Given as goal
+use Rattle.desk_forms.proofs.argument_source.many_in.Given as goal
 
 abbrev pub invariant-loop-arg : goal.invariant-loop-arg
 invariant-loop-arg g l =

@@ -1,7 +1,7 @@
 use Rattle.std.proofs.Common.{◌∙◌}
 use Rattle.store_tables.proofs.ReadOn.{failed, giving, then}
 use Rattle.store_core.proofs.FactsLemmasOfDesk.{link_facts}
-use Rattle.store_core.proofs.facts.facts_of_link.Goals as goal
+use Rattle.store_core.proofs.facts.link_facts.Goals as goal
 
 pub returns-in-Ok : goal.returns-in-Ok
 returns-in-Ok g c =

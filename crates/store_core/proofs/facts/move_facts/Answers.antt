@@ -2,7 +2,7 @@ use Rattle.std.proofs.Common.{◌∙◌, rules}
 use Rattle.store_tables.proofs.ReadOn.{failed, giving, then}
 use Rattle.store_core.specs.Found.{with_dependencies}
 use Rattle.store_core.proofs.FactsLemmasOfDesk.{absent_facts}
-use Rattle.store_core.proofs.facts.facts_of_move.Goals as goal
+use Rattle.store_core.proofs.facts.move_facts.Goals as goal
 
 pub returns-then-is_none : goal.returns-then-is_none
 returns-then-is_none g c =

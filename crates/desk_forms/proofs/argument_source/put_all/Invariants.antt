@@ -2,7 +2,7 @@
 use Rattle.std.proofs.Common.{◌≡◌, map, drop}
 use Rattle.desk_forms.specs.Kinds.{argument_of}
 use Rattle.desk_forms.specs.Arguments.{put_all, values_of}
-use Rattle.desk_forms.proofs.asked.put_all.Given as goal
+use Rattle.desk_forms.proofs.argument_source.put_all.Given as goal
 
 abbrev pub invariant-loop-arg : goal.invariant-loop-arg
 invariant-loop-arg g l =

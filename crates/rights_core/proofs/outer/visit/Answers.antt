@@ -7,7 +7,7 @@ use Rattle.std.proofs.lemmas.List.{get_or-map, length-map, map-append, map-set}
 use Rattle.rights_core.specs.Closure.{Marks, is_marked, marked_in, name_at, names_at}
 use Rattle.rights_core.proofs.Marks.{before_more, mark_none, mark_one, none_marked}
 use Rattle.rights_core.proofs.Placed.{within_more}
-use Rattle.rights_core.proofs.outer.mark.Goals as goal
+use Rattle.rights_core.proofs.outer.visit.Goals as goal
 
 pub loop-place-init : goal.loop-place-init
 loop-place-init c = record {

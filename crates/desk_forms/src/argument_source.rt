@@ -2,7 +2,7 @@
 
 ghost use Rattle.std.specs.Prelude.{◌≡◌, map, IfOk};
 ghost use Rattle.std.specs.Option.{option_map};
-ghost use Rattle.desk_forms.specs.Asked as asked;
+ghost use Rattle.desk_forms.specs.CommandFrom as source;
 ghost use Rattle.desk_forms.specs.ArgumentSource as spec;
 ghost use Rattle.desk_forms.specs.Table.{arguments};
 ghost use Rattle.desk_forms.specs.Kinds.{argument_of};
@@ -57,12 +57,12 @@ pub trait ArgumentSource {
 }
 
 /// The command of a form for which the sheet asks, if it gives what the form needs.
-pub fn asked<S: ArgumentSource>(
+pub fn command_from<S: ArgumentSource>(
     alloc: Global,
     of: CommandForm,
     sheet: &S,
 ) -> Result<Option<Command>, AllocError>
-    ensures { IfOk result (λ c. c ≡ asked.asked of (S.sheet sheet.now)) }
+    ensures { IfOk result (λ c. c ≡ source.command_from of (S.sheet sheet.now)) }
 {
     let args = args_of(of);
     let Some(many) = many_in(alloc, args, sheet)? else {

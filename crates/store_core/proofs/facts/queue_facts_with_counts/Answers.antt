@@ -1,13 +1,13 @@
 use Rattle.std.proofs.Common.{◌∙◌, rules}
 use Rattle.store_tables.proofs.ReadOn.{failed_at, giving, then}
-use Rattle.store_core.specs.Found.{counted}
+use Rattle.store_core.specs.Found.{build_queue_facts}
 use Rattle.store_core.proofs.FactsLemmasOfDesk.{queues_counted, requests_read}
-use Rattle.store_core.proofs.facts.facts_on_queue.Goals as goal
+use Rattle.store_core.proofs.facts.queue_facts_with_counts.Goals as goal
 
 pub returns : goal.returns
 returns g c =
     giving (λ d it desk of.
-    c.counted.ensures ∙ (λ t. counted (it.1 desk of t) (it.0.0 desk of t) (it.0.1 desk of t)))
+    c.build_queue_facts.ensures ∙ (λ t. build_queue_facts (it.1 desk of t) (it.0.0 desk of t) (it.0.1 desk of t)))
     (then (then (queues_counted c.in_ok-queues.ensures.read)
     (requests_read c.in_ok-requests.ensures)) c.in_ok-queue.ensures)
 

@@ -1,6 +1,6 @@
 use Rattle.std.proofs.Common.{◌≡◌, ◌+◌, length, take}
 use Rattle.rights_core.specs.Closure.{AreBefore, AreWithin, Marks, marked_in, names_at}
-use Rattle.rights_core.proofs.outer.mark.Given as goal
+use Rattle.rights_core.proofs.outer.visit.Given as goal
 
 abbrev pub invariant-loop-place : goal.invariant-loop-place
 invariant-loop-place l = record {

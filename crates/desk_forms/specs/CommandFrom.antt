@@ -11,6 +11,6 @@ made_if form (Some v) (Some many) = Some (build_command form v many)
 made_if form _ _ = None
 
 -- the command of a form for which the sheet asks, if it gives what the form needs
-abbrev pub asked : CommandForm → ArgumentSource → Option Command
-asked form sheet =
+abbrev pub command_from : CommandForm → ArgumentSource → Option Command
+command_from form sheet =
     made_if form (put_all (arguments form) sheet no_arguments) (many_in (arguments form) sheet)
