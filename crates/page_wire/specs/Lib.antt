@@ -2,6 +2,7 @@ pub mod Faults
 pub mod Forms
 pub mod HeadOnly
 pub mod Health
+pub mod Laws
 pub mod Redirect
 pub mod Next
 pub mod Replies

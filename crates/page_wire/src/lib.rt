@@ -12,6 +12,7 @@ mod faults;
 mod follow_up;
 mod head_only;
 mod health;
+pub mod laws;
 mod next;
 mod pages;
 mod redirect;
