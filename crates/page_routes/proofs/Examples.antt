@@ -207,18 +207,18 @@ place_that_is_no_page : page_or_home (Some places.SignOut) ≡ pages.Home
 place_that_is_no_page = refl
 
 unknown_token :
-    signed_by None None true (nexts.Page pages.Overdue) ≡ visits.NotSignedIn (nexts.Page pages.Overdue)
+    signed_by false None None true (nexts.Page pages.Overdue) ≡ visits.NotSignedIn (nexts.Page pages.Overdue)
 unknown_token = refl
 
 known_token :
-    signed_by (Some (codes "ann")) (Some (codes "ann.1.0a")) true (nexts.Page pages.Home)
-    ≡ visits.SignedIn (codes "ann.1.0a") true pages.Home
+    signed_by false (Some (codes "ann")) (Some (codes "ann.1.0a")) true (nexts.Page pages.Home)
+    ≡ visits.SignedIn false (codes "ann.1.0a") true pages.Home
 known_token = refl
 
 known_token_before_a_form :
-    signed_by (Some (codes "ann")) (Some (codes "ann.1.0a")) false
+    signed_by true (Some (codes "ann")) (Some (codes "ann.1.0a")) false
     (nexts.Form (sends.Comment 7 (codes "Hi")))
-    ≡ visits.Resumed (codes "ann") (codes "ann.1.0a") false (sends.Comment 7 (codes "Hi"))
+    ≡ visits.Resumed true (codes "ann") (codes "ann.1.0a") false (sends.Comment 7 (codes "Hi"))
 known_token_before_a_form = refl
 
 address_of_a_form_with_a_text :

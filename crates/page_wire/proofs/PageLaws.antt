@@ -79,25 +79,25 @@ module _ (s : Settings) (at : ℕ) (old new : Desk) (bytes : List ℕ) where
       → new ≡ old
   fixed_leaves v steps = by_either (is_due_moment at) _ _ (λ stays. stays.1) (λ stays. stays.1) steps
 
-  got_leaves : (lines : Lines) (place : Place)
-      → TimedPageSteps s at (got s at lines place) old bytes new → new ≡ old
-  got_leaves lines places.Style steps = fixed_leaves visit.Style steps
-  got_leaves lines places.SignIn steps = fixed_leaves visit.SignIn steps
-  got_leaves lines places.SignOut steps = fixed_leaves (visit.Leads page.Home) steps
-  got_leaves lines (places.Go next) steps = fixed_leaves (visit.Leads next) steps
-  got_leaves lines places.Queues steps = fixed_leaves (visit.Leads page.Home) steps
-  got_leaves lines (places.Page next) steps = look_leaves next (looker s at lines next) steps
-  got_leaves lines (places.Act act id) steps = fixed_leaves (visit.Leads (page.Request id)) steps
+  got_leaves : (https : Bool) (lines : Lines) (place : Place)
+      → TimedPageSteps s at (got https s at lines place) old bytes new → new ≡ old
+  got_leaves https lines places.Style steps = fixed_leaves visit.Style steps
+  got_leaves https lines places.SignIn steps = fixed_leaves visit.SignIn steps
+  got_leaves https lines places.SignOut steps = fixed_leaves (visit.Leads page.Home) steps
+  got_leaves https lines (places.Go next) steps = fixed_leaves (visit.Leads next) steps
+  got_leaves https lines places.Queues steps = fixed_leaves (visit.Leads page.Home) steps
+  got_leaves https lines (places.Page next) steps = look_leaves next (looker https s at lines next) steps
+  got_leaves https lines (places.Act act id) steps = fixed_leaves (visit.Leads (page.Request id)) steps
 
-module _ (s : Settings) (at : ℕ) (message : Message) (lines : Lines) (h : Bool) (old new : Desk)
-    (bytes : List ℕ) where
+module _ (https : Bool) (s : Settings) (at : ℕ) (message : Message) (lines : Lines) (h : Bool)
+    (old new : Desk) (bytes : List ℕ) where
   place_leaves : (place : Option Place) → method_named message.method ≡ Some Get
-      → PageSteps s at h (visited_at s at message lines place) old bytes new → new ≡ old
+      → PageSteps s at h (visited_at https s at message lines place) old bytes new → new ≡ old
   place_leaves None is steps = steps.1
   place_leaves (Some place) is steps =
-      let told = subst (λ (m : Option Method). PageSteps s at h (visited s at lines message.body place m)
+      let told = subst (λ (m : Option Method). PageSteps s at h (visited https s at lines message.body place m)
       old bytes new) is steps in
-      got_leaves s at old new told.0 lines place told.1.0
+      got_leaves s at old new told.0 https lines place told.1.0
 
   -- ---- another site
 
@@ -110,20 +110,20 @@ module _ (s : Settings) (at : ℕ) (message : Message) (lines : Lines) (h : Bool
   by_post false own answer is steps = steps
 
   place_told : (place : Option Place) → method_named message.method ≡ Some Post
-      → is_own lines ≡ false → PageSteps s at h (visited_at s at message lines place) old bytes new
+      → is_own lines ≡ false → PageSteps s at h (visited_at https s at message lines place) old bytes new
       → Tells (fault_reply h (fault_elsewhere place)) old bytes new
   place_told None is other steps = steps
   place_told (Some place) is other steps =
-      by_post (takes_post place) (is_own lines) (posted s at lines message.body place) other
-      (subst (λ (m : Option Method). PageSteps s at h (visited s at lines message.body place m)
+      by_post (takes_post place) (is_own lines) (posted https s at lines message.body place) other
+      (subst (λ (m : Option Method). PageSteps s at h (visited https s at lines message.body place m)
       old bytes new) is steps)
 
 pub looks_leave : LooksLeave
-looks_leave s at request head old new bytes starts is steps =
-    place_leaves s at request.message (values_in head) (is_head request.message) old new bytes
+looks_leave https s at request head old new bytes starts is steps =
+    place_leaves https s at request.message (values_in head) (is_head request.message) old new bytes
     (place_at request.message.target) is (steps head starts)
 
 pub other_sites_leave : OtherSitesLeave
-other_sites_leave s at request head old new bytes starts is other steps =
-    place_told s at request.message (values_in head) (is_head request.message) old new bytes
+other_sites_leave https s at request head old new bytes starts is other steps =
+    place_told https s at request.message (values_in head) (is_head request.message) old new bytes
     (place_at request.message.target) is other (steps head starts)

@@ -1,6 +1,6 @@
 -- What holds of all pages: whatever is looked at stays, and another site changes nothing and learns
 -- nothing.
-use Rattle.std.specs.Prelude.{◌≡◌, ℕ, false, if◌then◌else◌, List, []}
+use Rattle.std.specs.Prelude.{◌≡◌, ℕ, Bool, false, if◌then◌else◌, List, []}
 use Rattle.std.specs.Prelude.{Option, Some, None}
 use Rattle.httparse.specs.Grammar.{RequestHead}
 use Rattle.settings_core.specs.declared.settings.Settings.{Settings}
@@ -20,10 +20,10 @@ use Rattle.page_wire.specs.Steps.{RequestPageSteps, Tells}
 
 -- whatever GET and HEAD ask of the pages, the desk stays
 abbrev pub LooksLeave : Type 0
-LooksLeave = (settings : Settings) (at : ℕ) (request : Request) (head : RequestHead) (old new : Desk)
-    (bytes : List ℕ) → StartsWith request.head head []
+LooksLeave = (https : Bool) (settings : Settings) (at : ℕ) (request : Request) (head : RequestHead)
+    (old new : Desk) (bytes : List ℕ) → StartsWith request.head head []
     → method_named request.message.method ≡ Some Get
-    → RequestPageSteps settings at request old bytes new → new ≡ old
+    → RequestPageSteps https settings at request old bytes new → new ≡ old
 
 -- what is told of a post that comes from another site
 abbrev pub fault_elsewhere : Option Place → PageFault
@@ -33,9 +33,9 @@ fault_elsewhere (Some place) = if takes_post place then OtherSite else BadMethod
 -- a post that comes from another site leaves the desk, and its reply goes by its place alone: it is the
 -- same whatever cookie and whatever fields it has
 abbrev pub OtherSitesLeave : Type 0
-OtherSitesLeave = (settings : Settings) (at : ℕ) (request : Request) (head : RequestHead)
-    (old new : Desk) (bytes : List ℕ) → StartsWith request.head head []
+OtherSitesLeave = (https : Bool) (settings : Settings) (at : ℕ) (request : Request)
+    (head : RequestHead) (old new : Desk) (bytes : List ℕ) → StartsWith request.head head []
     → method_named request.message.method ≡ Some Post → is_own (values_in head) ≡ false
-    → RequestPageSteps settings at request old bytes new
+    → RequestPageSteps https settings at request old bytes new
     → Tells (fault_reply (is_head request.message)
     (fault_elsewhere (place_at request.message.target))) old bytes new

@@ -40,101 +40,101 @@ nothing_else s read true control is same = let no : true ≡ false = is in cc
 nothing_else s read false control is same = same
 
 -- the steps of what was read, and asks this of the server itself
-abbrev TakenOn : Settings → ℕ → Bool → Result Request WireFault → Control → List ℕ → State → State
+abbrev TakenOn : Bool → Settings → ℕ → Bool → Result Request WireFault → Control → List ℕ → State → State
     → Type 0
-TakenOn s at copied read control bytes =
-    OverTables s (λ desk after. TakenSteps s at copied read control desk bytes after)
+TakenOn https s at copied read control bytes =
+    OverTables s (λ desk after. TakenSteps https s at copied read control desk bytes after)
 
 no_memory : (bytes : List ℕ) → TellsFault NoMemory bytes → bytes ≡ bytes_of (unavailable false)
 no_memory bytes (inl is) = is
 no_memory bytes (inr (other, told)) = absurd (other refl)
 
 -- there was no memory for the step
-pub left_out : (s : Settings) (sent : Sent) (bytes : List ℕ) (old new : State)
-    → bytes ≡ bytes_of (unavailable false) → LeavesTables old new → IsRepliedOn s sent bytes old new
+pub left_out : (https : Bool) (s : Settings) (sent : Sent) (bytes : List ℕ) (old new : State)
+    → bytes ≡ bytes_of (unavailable false) → LeavesTables old new → IsRepliedOn https s sent bytes old new
 unfolding IsReplyTo
-left_out s sent bytes old new is kept =
-    leads_same s (λ desk after. IsReplyTo s sent desk bytes after) old new kept
+left_out https s sent bytes old new is kept =
+    leads_same s (λ desk after. IsReplyTo https s sent desk bytes after) old new kept
     (λ desk. inl (is, refl))
 
-taken_so : (s : Settings) (sent : Sent) (copied : Bool) (read : Result Request WireFault)
+taken_so : (https : Bool) (s : Settings) (sent : Sent) (copied : Bool) (read : Result Request WireFault)
     (bytes : List ℕ) (old new : State) → Plain sent.1 → IsTakenAs sent.1 read
-    → TakenOn s sent.0 copied read (control_of s read) bytes old new
-    → IsRepliedOn s sent bytes old new
+    → TakenOn https s sent.0 copied read (control_of s read) bytes old new
+    → IsRepliedOn https s sent bytes old new
 unfolding IsReplyTo
-taken_so s sent copied read bytes old new other reads steps =
+taken_so https s sent copied read bytes old new other reads steps =
     leads_wider s _ _ old new (λ desk after step. inr (inr (other, read, copied, reads, step))) steps
 
-unread_so : (s : Settings) (sent : Sent) (copied : Bool) (bytes : List ℕ) (old new : State)
-    → TakenOn s sent.0 copied (Err NoMemory) Nothing bytes old new
-    → IsRepliedOn s sent bytes old new
+unread_so : (https : Bool) (s : Settings) (sent : Sent) (copied : Bool) (bytes : List ℕ) (old new : State)
+    → TakenOn https s sent.0 copied (Err NoMemory) Nothing bytes old new
+    → IsRepliedOn https s sent bytes old new
 unfolding IsReplyTo
-unread_so s sent copied bytes old new steps =
+unread_so https s sent copied bytes old new steps =
     leads_wider s _ _ old new (λ desk after step. inl (no_memory bytes step.0, step.1)) steps
 
-taken : (s : Settings) (sent : Sent) (copied : Bool) (read : Result Request WireFault)
+taken : (https : Bool) (s : Settings) (sent : Sent) (copied : Bool) (read : Result Request WireFault)
     (bytes : List ℕ) (old new : State) → Plain sent.1 → Reads sent.1 read
-    → TakenOn s sent.0 copied read (control_of s read) bytes old new
-    → IsRepliedOn s sent bytes old new
-taken s sent copied (Ok request) bytes old new other reads steps =
-    taken_so s sent copied (Ok request) bytes old new other (reads (λ e. cc)) steps
-taken s sent copied (Err NoMemory) bytes old new other reads steps =
-    unread_so s sent copied bytes old new steps
-taken s sent copied (Err Read) bytes old new other reads steps =
-    taken_so s sent copied (Err Read) bytes old new other (reads (λ e. cc)) steps
-taken s sent copied (Err TooLong) bytes old new other reads steps =
-    taken_so s sent copied (Err TooLong) bytes old new other (reads (λ e. cc)) steps
-taken s sent copied (Err Truncated) bytes old new other reads steps =
-    taken_so s sent copied (Err Truncated) bytes old new other (reads (λ e. cc)) steps
-taken s sent copied (Err BadHead) bytes old new other reads steps =
-    taken_so s sent copied (Err BadHead) bytes old new other (reads (λ e. cc)) steps
-taken s sent copied (Err BadLength) bytes old new other reads steps =
-    taken_so s sent copied (Err BadLength) bytes old new other (reads (λ e. cc)) steps
+    → TakenOn https s sent.0 copied read (control_of s read) bytes old new
+    → IsRepliedOn https s sent bytes old new
+taken https s sent copied (Ok request) bytes old new other reads steps =
+    taken_so https s sent copied (Ok request) bytes old new other (reads (λ e. cc)) steps
+taken https s sent copied (Err NoMemory) bytes old new other reads steps =
+    unread_so https s sent copied bytes old new steps
+taken https s sent copied (Err Read) bytes old new other reads steps =
+    taken_so https s sent copied (Err Read) bytes old new other (reads (λ e. cc)) steps
+taken https s sent copied (Err TooLong) bytes old new other reads steps =
+    taken_so https s sent copied (Err TooLong) bytes old new other (reads (λ e. cc)) steps
+taken https s sent copied (Err Truncated) bytes old new other reads steps =
+    taken_so https s sent copied (Err Truncated) bytes old new other (reads (λ e. cc)) steps
+taken https s sent copied (Err BadHead) bytes old new other reads steps =
+    taken_so https s sent copied (Err BadHead) bytes old new other (reads (λ e. cc)) steps
+taken https s sent copied (Err BadLength) bytes old new other reads steps =
+    taken_so https s sent copied (Err BadLength) bytes old new other (reads (λ e. cc)) steps
 
-by_control : (s : Settings) (sent : Sent) (copied expects : Bool) (read : Result Request WireFault)
+by_control : (https : Bool) (s : Settings) (sent : Sent) (copied expects : Bool) (read : Result Request WireFault)
     (control : Control) (bytes : List ℕ) (old new : State) → expects ≡ false
     → TellsExpecting sent.1 expects → control ≡ control_by expects s read → Reads sent.1 read
-    → TakenOn s sent.0 copied read control bytes old new → IsRepliedOn s sent bytes old new
-by_control s sent copied expects read control bytes old new unexpected told is reads steps =
-    taken s sent copied read bytes old new (plain sent.1 expects unexpected told) reads
-    (subst (λ (c : Control). TakenOn s sent.0 copied read c bytes old new)
+    → TakenOn https s sent.0 copied read control bytes old new → IsRepliedOn https s sent bytes old new
+by_control https s sent copied expects read control bytes old new unexpected told is reads steps =
+    taken https s sent copied read bytes old new (plain sent.1 expects unexpected told) reads
+    (subst (λ (c : Control). TakenOn https s sent.0 copied read c bytes old new)
     (nothing_else s read expects control unexpected is) steps)
 
 -- it asks nothing of the server itself, and was answered
-pub answered : (s : Settings) (sent : Sent) (copied expects : Bool) (read : Result Request WireFault)
+pub answered : (https : Bool) (s : Settings) (sent : Sent) (copied expects : Bool) (read : Result Request WireFault)
     (bytes : List ℕ) (old new : State) → expects ≡ false → TellsExpecting sent.1 expects
     → Nothing ≡ control_by expects s read → Reads sent.1 read
-    → MessageReadStepsOn s sent.0 read bytes old new → IsRepliedOn s sent bytes old new
-answered s sent copied expects read bytes old new unexpected told is reads steps =
-    by_control s sent copied expects read Nothing bytes old new unexpected told is reads steps
+    → MessageReadStepsOn https s sent.0 read bytes old new → IsRepliedOn https s sent bytes old new
+answered https s sent copied expects read bytes old new unexpected told is reads steps =
+    by_control https s sent copied expects read Nothing bytes old new unexpected told is reads steps
 
 -- it asks the server to stop
-pub stopped : (s : Settings) (sent : Sent) (copied expects : Bool) (read : Result Request WireFault)
+pub stopped : (https : Bool) (s : Settings) (sent : Sent) (copied expects : Bool) (read : Result Request WireFault)
     (bytes : List ℕ) (tables : State) → expects ≡ false → TellsExpecting sent.1 expects
     → Stop ≡ control_by expects s read → Reads sent.1 read → bytes ≡ bytes_of stop_reply
-    → IsRepliedOn s sent bytes tables tables
-stopped s sent copied expects read bytes tables unexpected told is reads replied =
-    by_control s sent copied expects read Stop bytes tables tables unexpected told is reads
+    → IsRepliedOn https s sent bytes tables tables
+stopped https s sent copied expects read bytes tables unexpected told is reads replied =
+    by_control https s sent copied expects read Stop bytes tables tables unexpected told is reads
     (leads_nowhere s _ tables (λ desk. (replied, refl)))
 
 -- it asks for a copy
-pub copied_so : (s : Settings) (sent : Sent) (copied expects : Bool)
+pub copied_so : (https : Bool) (s : Settings) (sent : Sent) (copied expects : Bool)
     (read : Result Request WireFault) (bytes : List ℕ) (tables : State) → expects ≡ false
     → TellsExpecting sent.1 expects → Copy ≡ control_by expects s read → Reads sent.1 read
-    → bytes ≡ bytes_of (copy_told copied) → IsRepliedOn s sent bytes tables tables
-copied_so s sent copied expects read bytes tables unexpected told is reads replied =
-    by_control s sent copied expects read Copy bytes tables tables unexpected told is reads
+    → bytes ≡ bytes_of (copy_told copied) → IsRepliedOn https s sent bytes tables tables
+copied_so https s sent copied expects read bytes tables unexpected told is reads replied =
+    by_control https s sent copied expects read Copy bytes tables tables unexpected told is reads
     (leads_nowhere s _ tables (λ desk. (replied, refl)))
 
 -- it expects something
-pub failed : (s : Settings) (sent : Sent) (expects : Bool) (bytes : List ℕ) (tables : State)
+pub failed : (https : Bool) (s : Settings) (sent : Sent) (expects : Bool) (bytes : List ℕ) (tables : State)
     → expects ≡ true → TellsExpecting sent.1 expects → bytes ≡ bytes_of expectation_failed
-    → IsRepliedOn s sent bytes tables tables
+    → IsRepliedOn https s sent bytes tables tables
 unfolding IsReplyTo
-failed s sent expects bytes tables expected told replied =
+failed https s sent expects bytes tables expected told replied =
     let waits : IsExpecting sent.1 =
     subst (λ (b : Bool). MatchBool b (IsExpecting sent.1) (¬ (IsExpecting sent.1))) expected told in
-    leads_nowhere s (λ desk after. IsReplyTo s sent desk bytes after) tables
+    leads_nowhere s (λ desk after. IsReplyTo https s sent desk bytes after) tables
     (λ desk. inr (inl (waits, replied, refl)))
 
 -- nothing is asked of the server itself then
@@ -147,8 +147,8 @@ untold s read true Copy copied bytes expected is = let unexpected : Copy ≡ Not
 untold s read false control copied bytes expected is = let unexpected : false ≡ true = expected in cc
 
 -- it is sent with its date
-pub sent_so : (s : Settings) (sent : Sent) (second : Option ℕ) (whole bytes : List ℕ) (old new : State)
-    → IsRepliedOn s sent whole old new → IsDatedAt second whole bytes → IsSentOn s sent bytes old new
+pub sent_so : (https : Bool) (s : Settings) (sent : Sent) (second : Option ℕ) (whole bytes : List ℕ) (old new : State)
+    → IsRepliedOn https s sent whole old new → IsDatedAt second whole bytes → IsSentOn https s sent bytes old new
 unfolding IsSentTo
-sent_so s sent second whole bytes old new steps date =
+sent_so https s sent second whole bytes old new steps date =
     leads_wider s _ _ old new (λ desk after step. (whole, (second, date), step)) steps

@@ -21,7 +21,7 @@ IsTaken g made told old a new =
     (read : Result Request WireFault) × (copied : Bool) × (expects : Bool) × (whole : List ℕ)
     × TellsExpecting a.message expects
     × (read ≢ Err NoMemory → IsTakenAs a.message read)
-    × IsNote old.proxied (settings_of g old.desk) a.at read whole a.note
+    × IsNote old.proxied old.https (settings_of g old.desk) a.at read whole a.note
     × IsTold (control_by expects (settings_of g old.desk) read) copied whole
     × CopiesBy (control_by expects (settings_of g old.desk) read) copied (made old.system)
     (made new.system)
@@ -29,12 +29,14 @@ IsTaken g made told old a new =
     × (new.proxied ≡ old.proxied)
     × IsDatedAt (told new.system) whole a.reply
 
--- the step of a message over its tables, under the same settings, and what else came of it
+-- the step of a message over its tables, under the same settings and with the same cookie, and what
+-- else came of it
 abbrev pub Steps : {S C : Type 0} (g : Ghosts S) → (C → ℕ) → (C → Option ℕ) → WebDesk S C g
     → Answered → WebDesk S C g → Type 0
 Steps g made told old a new =
-    StepsAt (settings_of g old.desk) (tables_of g old.desk) a (tables_of g new.desk)
-    × (settings_of g new.desk ≡ settings_of g old.desk) × IsTaken g made told old a new
+    StepsAt old.https (settings_of g old.desk) (tables_of g old.desk) a (tables_of g new.desk)
+    × (settings_of g new.desk ≡ settings_of g old.desk) × (new.https ≡ old.https)
+    × IsTaken g made told old a new
 
 -- it was seen that its store is shut, or it was asked to stop
 abbrev pub shuts : {S C : Type 0} (g : Ghosts S) → WebDesk S C g → Bool

@@ -11,7 +11,7 @@ use wire_core::Routes;
 /// A desk over tables, and what its server has of the system; whether it was seen that its store is
 /// shut, and whether somebody who may has asked the server to stop. A fault of the disk shuts a
 /// store for good, and then no command is done any more. Behind a proxy the log notes the address
-/// that the proxy tells.
+/// that the proxy tells. Where browsers come by HTTPS the pages have a cookie for that alone.
 #[derive(Drop)]
 pub struct WebDesk<S: Backend, C> {
     pub(crate) desk: Desk<S>,
@@ -20,17 +20,19 @@ pub struct WebDesk<S: Backend, C> {
     pub(crate) is_shut: bool,
     pub(crate) stops: bool,
     pub(crate) proxied: bool,
+    pub(crate) https: bool,
     ghost seen: { is_shut ≡ true → IsShut (tables_of S.Store desk) },
 }
 
 impl<S: Backend, C> WebDesk<S, C> {
     /// The desk, whose store counts as open and which nobody has asked to stop, and the router of
     /// its paths. Where there is no memory for that one the paths are gone over without it.
-    pub fn new(alloc: Global, desk: Desk<S>, system: C, proxied: bool) -> WebDesk<S, C>
+    pub fn new(alloc: Global, desk: Desk<S>, system: C, proxied: bool, https: bool) -> WebDesk<S, C>
         ensures desk { result.desk ≡ desk }
         ensures open { result.is_shut ≡ false }
         ensures goes { result.stops ≡ false }
         ensures proxied { result.proxied ≡ proxied }
+        ensures https { result.https ≡ https }
     {
         WebDesk {
             desk,
@@ -39,6 +41,7 @@ impl<S: Backend, C> WebDesk<S, C> {
             is_shut: false,
             stops: false,
             proxied,
+            https,
         }
     }
 

@@ -30,6 +30,7 @@ use wire_core::Routes;
 fn answer_to<S: Backend>(
     alloc: Global,
     routes: Option<&Routes>,
+    https: bool,
     minute: u32,
     _message: &[u8],
     expects: bool,
@@ -41,7 +42,7 @@ fn answer_to<S: Backend>(
     requires expects { TellsExpecting _message.now expects }
     requires read { read.now ≢ Err WireFault.NoMemory → IsTakenAs _message.now read.now }
     requires control { control ≡ asked_by expects (settings_of S.Store desk.old) read.now }
-    ensures step { IsRepliedOn (settings_of S.Store desk.old) (minute, _message.now)
+    ensures step { IsRepliedOn https (settings_of S.Store desk.old) (minute, _message.now)
         (bytes_of result) (tables_of S.Store desk.old) (tables_of S.Store desk.new) }
     ensures told { IsTold control copied (bytes_of result) }
     ensures left { LeavesDesk S.Store desk.old desk.new }
@@ -50,7 +51,7 @@ fn answer_to<S: Backend>(
         return Reply::Fixed(expectation_failed());
     }
     match control {
-        Control::Nothing => match answer_sent(alloc, routes, read, minute, desk) {
+        Control::Nothing => match answer_sent(alloc, routes, https, read, minute, desk) {
             Ok(reply) => Reply::Made(reply),
             Err(_) => Reply::Fixed(unavailable_reply(false)),
         },
@@ -94,6 +95,7 @@ impl<S: Backend, C: System> server_core::Desk for WebDesk<S, C> {
         let whole = answer_to(
             alloc,
             routes,
+            self.https,
             minute,
             message,
             expects,
@@ -105,6 +107,7 @@ impl<S: Backend, C: System> server_core::Desk for WebDesk<S, C> {
         let note = note_on(
             alloc,
             self.proxied,
+            self.https,
             self.desk.settings(),
             minute,
             &read,

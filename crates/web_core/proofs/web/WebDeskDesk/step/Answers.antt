@@ -19,13 +19,13 @@ returns g c =
     ∙ ap (λ s. control_by c.is_expecting-expects.result s c.taken-read.result) c.settings.ensures in
     let date = subst (λ (t : Option ℕ). IsDatedAt t (bytes_of c.answer_to-whole.result)
     (bytes_of c.with_date-reply.result)) (sym c.second.ensures.told) c.with_date-reply.ensures in (
-      step_spared (settings_of g.S.Store c.args.self.now.desk)
+      step_spared c.args.self.now.https (settings_of g.S.Store c.args.self.now.desk)
           (tables_of g.S.Store c.args.self.now.desk)
           (tables_of g.S.Store c.answer_to-whole.new.desk)
           (tables_of g.S.Store c.is_seen_shut-self.new.desk)
           (answered_as c.args.minute c.args.message.now
           (record { reply = c.with_date-reply.result; note = c.note_on-note.result })) (
-            sent_so (settings_of g.S.Store c.args.self.now.desk)
+            sent_so c.args.self.now.https (settings_of g.S.Store c.args.self.now.desk)
                 (c.args.minute, c.args.message.now) _ (bytes_of c.answer_to-whole.result)
                 (bytes_of c.with_date-reply.result) (tables_of g.S.Store c.args.self.now.desk)
                 (tables_of g.S.Store c.answer_to-whole.new.desk) c.answer_to-whole.ensures.step
@@ -35,6 +35,7 @@ returns g c =
           )
           c.is_seen_shut-self.ensures.kept,
       c.is_seen_shut-self.ensures.same ∙ left.same,
+      refl,
       (
         c.taken-read.result,
         c.copy_if-copied.result,
@@ -42,7 +43,7 @@ returns g c =
         bytes_of c.answer_to-whole.result,
         c.is_expecting-expects.ensures,
         c.taken-read.ensures,
-        note_same c.args.self.now.proxied _ _ c.args.minute c.taken-read.result _
+        note_same c.args.self.now.proxied c.args.self.now.https _ _ c.args.minute c.taken-read.result _
             (bytes_of c.answer_to-whole.result) c.note_on-note.result.items
             (c.settings-2.ensures ∙ left.same) c.bytes.ensures c.note_on-note.ensures,
         subst (λ (a : Control). IsTold a c.copy_if-copied.result (bytes_of c.answer_to-whole.result))
