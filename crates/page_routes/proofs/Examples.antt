@@ -23,7 +23,7 @@ use Rattle.page_routes.specs.Places.{act_named, fixed, is_page_path, method_name
 use Rattle.page_routes.specs.Places.{queue_page, takes_post}
 use Rattle.page_routes.specs.Visits.{Lines, acted, asked_at, asked_by, caller_by, caller_of, form_of}
 use Rattle.page_routes.specs.Visits.{got, is_search, lasts_of, looker, next_from, next_in}
-use Rattle.page_routes.specs.Visits.{page_or_home, posted_from, sent_in, sent_on, signed_at, signed_by}
+use Rattle.page_routes.specs.Visits.{page_or_home, posted, posted_from, sent_in, sent_on, signed_at, signed_by}
 use Rattle.page_routes.specs.declared.fault.PageFault.TheVariants.{NoRoute, BadMethod, OtherSite}
 use Rattle.page_routes.specs.declared.fault.PageFault.TheVariants.{BadBody}
 use Rattle.page_routes.specs.declared.next.Next.TheVariants as nexts
@@ -372,41 +372,69 @@ from site name = if bytes_eq name (codes "Sec-Fetch-Site") then site ∷ [] else
 -- it isn't asked whose it is
 post_from_another_site :
     (settings : Settings)
-    → posted_from settings 1000 (from (codes "cross-site")) [] (places.Act forms.Take 7) ≡ Err OtherSite
+    → posted_from false settings 1000 (from (codes "cross-site")) [] (places.Act forms.Take 7) ≡ Err OtherSite
 post_from_another_site settings = refl
 
 signing_out_from_another_site :
     (settings : Settings)
-    → posted_from settings 1000 (from (codes "same-site")) [] places.SignOut ≡ Err OtherSite
+    → posted_from false settings 1000 (from (codes "same-site")) [] places.SignOut ≡ Err OtherSite
 signing_out_from_another_site settings = refl
 
 post_from_a_page_of_its_own :
     (settings : Settings)
-    → posted_from settings 1000 (from (codes "same-origin")) [] (places.Act forms.Take 7)
+    → posted_from false settings 1000 (from (codes "same-origin")) [] (places.Act forms.Take 7)
     ≡ Ok (visits.Unknown (nexts.Page (pages.Request 7)) false)
 post_from_a_page_of_its_own settings = refl
 
 -- whoever is signed in here
 search_that_another_site_opens :
     (settings : Settings)
-    → looker settings 1000 (from (codes "cross-site")) (pages.Find (codes "words=jam") First) ≡ None
+    → looker false settings 1000 (from (codes "cross-site")) (pages.Find (codes "words=jam") First) ≡ None
 search_that_another_site_opens settings = refl
 
 request_that_another_site_opens :
     (settings : Settings)
-    → looker settings 1000 (from (codes "cross-site")) (pages.Request 7)
-    ≡ caller_of settings 1000 (from (codes "cross-site"))
+    → looker false settings 1000 (from (codes "cross-site")) (pages.Request 7)
+    ≡ caller_of false settings 1000 (from (codes "cross-site"))
 request_that_another_site_opens settings = refl
+
+-- behind HTTPS the cookie of that name alone is read, and the cookies are told apart by their names
+abbrev cookies : List ℕ → Lines
+cookies line name = if bytes_eq name (codes "Cookie") then line ∷ [] else []
+
+plain_cookie_behind_https :
+    (settings : Settings)
+    → caller_of true settings 1719 (cookies (codes "desk=ann.1720.0a")) ≡ None
+unfolding chars encode is_utf8
+plain_cookie_behind_https settings = refl
+
+its_cookie_behind_https :
+    (settings : Settings)
+    → caller_of true settings 1719 (cookies (codes "desk=ben.1720.0b; __Host-desk=ann.1720.0a"))
+    ≡ sessions.caller_of settings (codes "ann.1720.0a") 1719
+unfolding chars encode is_utf8
+its_cookie_behind_https settings = refl
+
+its_cookie_without_https :
+    (settings : Settings)
+    → caller_of false settings 1719 (cookies (codes "__Host-desk=ann.1720.0a")) ≡ None
+unfolding chars encode is_utf8
+its_cookie_without_https settings = refl
+
+signing_out_behind_https :
+    (settings : Settings) → (lines : Lines)
+    → posted true settings 1000 lines [] places.SignOut ≡ Ok (visits.SignOut true)
+signing_out_behind_https settings lines = refl
 
 -- who follows a link there isn't signed out
 signing_out_takes_a_post :
     (settings : Settings) → (lines : Lines)
-    → got settings 1000 lines places.SignOut ≡ visits.Leads pages.Home
+    → got false settings 1000 lines places.SignOut ≡ visits.Leads pages.Home
 signing_out_takes_a_post settings lines = refl
 
 taking_takes_a_post :
     (settings : Settings) → (lines : Lines)
-    → got settings 1000 lines (places.Act forms.Take 7) ≡ visits.Leads (pages.Request 7)
+    → got false settings 1000 lines (places.Act forms.Take 7) ≡ visits.Leads (pages.Request 7)
 taking_takes_a_post settings lines = refl
 
 -- ---- signing in
@@ -428,24 +456,24 @@ nothing_to_come_next = refl
 signed_in_for_a_day :
     (settings : Settings)
     → sessions.signed_in settings (codes "its-token") 1000 Day ≡ Some (codes "ann.1720.0a")
-    → signed_at settings 1000 (field (codes "token") (codes " its-token") ∷ [])
-    ≡ visits.SignedIn (codes "ann.1720.0a") false pages.Home
+    → signed_at false settings 1000 (field (codes "token") (codes " its-token") ∷ [])
+    ≡ visits.SignedIn false (codes "ann.1720.0a") false pages.Home
 unfolding chars encode is_utf8
 signed_in_for_a_day settings e = rw e refl
 
 signed_in_for_a_month :
     (settings : Settings)
     → sessions.signed_in settings (codes "its-token") 1000 Month ≡ Some (codes "ann.44200.0b")
-    → signed_at settings 1000
+    → signed_at false settings 1000
     (field (codes "token") (codes "its-token") ∷ field (codes "keep") (codes "yes") ∷ [])
-    ≡ visits.SignedIn (codes "ann.44200.0b") true pages.Home
+    ≡ visits.SignedIn false (codes "ann.44200.0b") true pages.Home
 unfolding chars encode is_utf8
 signed_in_for_a_month settings e = rw e refl
 
 -- what was typed stands nowhere
 token_that_is_not_known :
     (settings : Settings) → sessions.signed_in settings (codes "its-token") 1000 Day ≡ None
-    → signed_at settings 1000 (field (codes "token") (codes "its-token") ∷ [])
+    → signed_at false settings 1000 (field (codes "token") (codes "its-token") ∷ [])
     ≡ visits.NotSignedIn (nexts.Page pages.Home)
 unfolding chars encode is_utf8
 token_that_is_not_known settings e = rw e refl

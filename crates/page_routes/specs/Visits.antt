@@ -249,3 +249,14 @@ visited_at https settings at message lines (Some place) =
 abbrev pub visit_of : Bool → Settings → ℕ → Message → Lines → Answer
 visit_of https settings at message lines =
     visited_at https settings at message lines (place_at message.target)
+
+-- ---- a wrong token
+
+abbrev pub is_not_signed_in : Answer → Bool
+is_not_signed_in (Ok (visits.NotSignedIn next)) = true
+is_not_signed_in answer = false
+
+-- whether a message tries to sign in by a token that the settings don't know
+abbrev pub is_wrong_token : Bool → Settings → ℕ → Message → Lines → Bool
+is_wrong_token https settings at message lines =
+    is_not_signed_in (visit_of https settings at message lines)

@@ -109,6 +109,34 @@ pub fn visit_of(
     }
 }
 
+/// Whether a message tries to sign in by a token that the settings don't know. `AllocError` may stand
+/// in place of any answer.
+pub fn is_wrong_token(
+    alloc: Global,
+    settings: &Settings,
+    https: bool,
+    at: u32,
+    request: &Request,
+) -> Result<bool, AllocError>
+    ensures { (h : RequestHead) → StartsWith request.now.head h [] → IfOk result (λ wrong.
+        wrong ≡ visits.is_wrong_token https settings.now at request.now.message (values_in h)) }
+{
+    match visit_of(alloc, settings, https, at, request) {
+        Ok(visit) => Ok(is_not_signed_in(&visit)),
+        Err(PageFault::NoMemory) => Err(AllocError),
+        Err(_) => Ok(false),
+    }
+}
+
+fn is_not_signed_in(visit: &PageRequest) -> bool
+    ensures { result ≡ visits.is_not_signed_in (Ok visit.now) }
+{
+    match visit {
+        PageRequest::NotSignedIn { .. } => true,
+        _ => false,
+    }
+}
+
 /// What it asks at a place.
 fn visited(
     alloc: Global,

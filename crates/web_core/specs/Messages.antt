@@ -16,17 +16,22 @@ use Rattle.page_wire.specs.Steps.{IsReadOf, MessageReadSteps}
 use Rattle.server_core.specs.Turns.{Answered}
 use Rattle.web_core.specs.Control.{control_of, copy_told, stop_reply}
 use Rattle.web_core.specs.Dates.{IsDated}
+use Rattle.web_core.specs.Guessing.{barred_reply}
 use Rattle.web_core.specs.declared.control.Control.{Control}
-use Rattle.web_core.specs.declared.control.Control.TheVariants.{Nothing, Stop, Copy}
+use Rattle.web_core.specs.declared.control.Control.TheVariants.{Nothing, Bar, Stop, Copy}
 
 abbrev pub sent_of : Answered → Sent
 sent_of a = (a.at, a.message)
 
 -- The step of what was read. What is asked of the server itself is told, whether a copy was made or
--- not, and the desk stays; any other message is answered by the pages or the interface.
+-- not, and a token from an address that is barred is refused: the desk stays. Any other message is
+-- answered by the pages or the interface.
 abbrev pub TakenSteps : Bool → Settings → ℕ → Bool → Result Request WireFault → Control → Desk → List ℕ
     → Desk → Type 0
-TakenSteps https settings at copied read Nothing old bytes new = MessageReadSteps https settings at read old bytes new
+TakenSteps https settings at copied read Nothing old bytes new =
+    MessageReadSteps https settings at read old bytes new
+TakenSteps https settings at copied read Bar old bytes new =
+    (bytes ≡ bytes_of barred_reply) × (new ≡ old)
 TakenSteps https settings at copied read Stop old bytes new =
     (bytes ≡ bytes_of stop_reply) × (new ≡ old)
 TakenSteps https settings at copied read Copy old bytes new =
@@ -47,9 +52,9 @@ unfoldable pub IsReplyTo : Bool → Settings → Sent → Desk → List ℕ → 
 IsReplyTo https settings sent old bytes new =
     LeavesOut false old bytes new
     ⊎ ((IsExpecting sent.1 × (bytes ≡ bytes_of expectation_failed) × (new ≡ old))
-    ⊎ (¬ (IsExpecting sent.1) × (read : Result Request WireFault) × (copied : Bool)
+    ⊎ (¬ (IsExpecting sent.1) × (read : Result Request WireFault) × (copied : Bool) × (barred : Bool)
     × IsTakenAs sent.1 read
-    × TakenSteps https settings sent.0 copied read (control_of settings read) old bytes new))
+    × TakenSteps https settings sent.0 copied read (control_of barred settings read) old bytes new))
 
 -- what is sent is that reply with its date
 unfoldable pub IsSentTo : Bool → Settings → Sent → Desk → List ℕ → Desk → Type 0

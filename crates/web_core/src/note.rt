@@ -93,7 +93,7 @@ fn bytes_of(text: &Option<Text>) -> &[u8]
 }
 
 /// Where a message comes from, if a proxy stands in front and tells.
-fn forwarded_in(proxied: bool, head: &[u8]) -> &[u8]
+pub(crate) fn forwarded_in(proxied: bool, head: &[u8]) -> &[u8]
     ensures { (h : RequestHead) → StartsWith head.now h []
         → result.now ≡ form.forwarded_in proxied h }
 {
