@@ -3,8 +3,9 @@ pub mod Forms
 pub mod HeadOnly
 pub mod Health
 pub mod Laws
-pub mod Redirect
 pub mod Next
+pub mod Redirect
 pub mod Replies
 pub mod Steps
+pub mod Twice
 pub mod Visits

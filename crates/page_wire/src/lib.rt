@@ -21,6 +21,7 @@ mod replies;
 mod serve;
 mod sign_in;
 mod submit;
+mod twice;
 mod unsent;
 mod visits;
 
