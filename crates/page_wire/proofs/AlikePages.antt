@@ -135,9 +135,9 @@ module _ (s : Settings) (at : ℕ) (caller : List ℕ) (one other : Desk)
   does_alike asked reply after last bytes told reads is (outcome, step, so) (outcomes, steps, also) =
       told_alike reply (out_of_memory caller at) outcome outcomes (Err Unavailable) bytes told is
       (λ n m.
-          tells s caller (ask_by at caller asked) one after outcome (reads, refl) n step
-          ∙ ap (model.outcome_of s at caller asked) same
-          ∙ sym (tells s caller (ask_by at caller asked) other last outcomes (reads, refl) m steps))
+      tells s caller (ask_by at caller asked) one after outcome (reads, refl) n step
+      ∙ ap (model.outcome_of s at caller asked) same
+      ∙ sym (tells s caller (ask_by at caller asked) other last outcomes (reads, refl) m steps))
       so also
 
   -- ---- a request
