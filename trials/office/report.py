@@ -78,7 +78,7 @@ def page(trial, given, seconds):
         f"It took {seconds / 60:.1f} minutes on {len(os.sched_getaffinity(0))} processors that had other work too: the load "
         f"was {min(figures.loads):.1f} to {max(figures.loads):.1f}, in the middle {statistics.median(figures.loads):.1f}. "
         f"The trial, with its model, used {own:.1f} minutes of processor time, and the programs {others:.1f}.",
-        f"{figures.total()} answers were compared with those of [the rules told twice](../models/README.md), and "
+        f"{figures.total()} answers were compared with those of [second models of the rules](../models/README.md), and "
         + ", ".join(f"{count} {name}" for name, count in sorted(figures.compared.items()))
         + f". Nothing differed. At its end there were {last[1]} requests.",
         "## What was asked", table(("By", "Done", "Refused"), ways(figures)),
