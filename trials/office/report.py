@@ -55,12 +55,12 @@ def ways(figures):
         yield name, counts[way, True], counts[way, False]
 
 
-def grown(figures):
-    """What the desk takes in its second night, and in its last."""
-    nights = figures.nights[min(1, len(figures.nights) - 1)], figures.nights[-1]
-    told = [f"In the night of {day_of(at)}: {requests} requests, {memory / 1024:.1f} MiB of memory, a file of "
-            f"{file / 2**20:.2f} MiB, Home in {1000 * home:.1f} ms." for at, requests, memory, file, _, home in nights]
-    return " ".join(told) + " Home is the first page of the one who sees all."
+def growth(figures):
+    """Some ten of the nights, the last among them."""
+    step = max(1, len(figures.nights) // 10)
+    for at, requests, memory, file, log, home in figures.nights[::-step][::-1]:
+        yield (day_of(at), requests, f"{memory / 1024:.1f}", f"{file / 2**20:.2f}", f"{log / 2**20:.2f}",
+               f"{1000 * home:.1f}")
 
 
 def day_of(at):
@@ -102,7 +102,9 @@ def page(trial, given, seconds):
         "These are times of the clock as a client sees them, with the start of a process for `desk`, `desk_ask` and "
         "`desk_load`, on tables in memory: no disk was waited for. A line of `desk_load` is a share of its run.",
         "![How long answers take by the hour](year-hours.svg)",
-        "## How it grew", grown(figures),
+        "## How it grew",
+        table(("Night of", "Requests", "Memory, MiB", "File, MiB", "Log, MiB", "Home, ms"), growth(figures)),
+        "Home is the first page of the one who sees all.",
         "![Memory and file](year-growth.svg)", "![Home](year-home.svg)"]) + "\n"
 
 
