@@ -74,11 +74,12 @@ def page(trial, given, seconds):
         "# A year of an office",
         f"`trials/year --seed {given.seed} --days {len(figures.nights)} --bench` writes this page. It ran {len(figures.nights)} working "
         f"days of an office of fifty, from {day_of(figures.nights[0][0])} to {day_of(last[0])} by its own clock, on "
-        f"{given.build}. [Its head](../trials/year) says what it does, and [words](../docs/words.md) has the words.",
-        f"It took {seconds / 60:.1f} minutes on {len(os.sched_getaffinity(0))} processors that had other work too: the load "
-        f"was {min(figures.loads):.1f} to {max(figures.loads):.1f}, in the middle {statistics.median(figures.loads):.1f}. "
-        f"The trial, with its model, used {own:.1f} minutes of processor time, and the programs {others:.1f}.",
-        f"{figures.total()} answers were compared with those of [second models of the rules](../models/README.md), and "
+        f"{given.build}. What it does stands in [its head](../trials/year), and [words](../docs/words.md) has the words.",
+        f"It took {seconds / 60:.1f} minutes on {len(os.sched_getaffinity(0))} processors, beside other work: the load of the "
+        f"machine was {min(figures.loads):.1f} to {max(figures.loads):.1f}, in the middle "
+        f"{statistics.median(figures.loads):.1f}. Of the processors' time the trial had {own:.1f} minutes, the model among "
+        f"it, and the programs {others:.1f}.",
+        f"{figures.total()} answers were compared with those of [the rules told twice](../models/README.md), and "
         + ", ".join(f"{count} {name}" for name, count in sorted(figures.compared.items()))
         + f". Nothing differed. At its end there were {last[1]} requests.",
         "## What was asked", table(("By", "Done", "Refused"), ways(figures)),
