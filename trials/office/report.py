@@ -35,18 +35,11 @@ def table(head, rows):
 
 
 def kinds(figures):
-    """Each command and reading: how often it was done by each way, and how often it was refused, by the refusals."""
-    done, refused = collections.Counter(), collections.defaultdict(collections.Counter)
-    for (way, name, code), count in figures.answers.items():
-        if code == "done":
-            done[name, way] += count
-        else:
-            refused[name][way] += count
-            refused[name, "by"][code] += count
-    for name in sorted({name for _, name, _ in figures.answers}):
-        cells = [f"{done[name, way]} / {refused[name][way]}" for way in WAYS]
-        told_of = ", ".join(f"{code} {count}" for code, count in sorted(refused[name, "by"].items()))
-        yield f"`{name}`", *("–" if it == "0 / 0" else it for it in cells), told_of or "–"
+    """Each command and reading, and how often it was done and refused."""
+    counts = collections.Counter()
+    for (_, name, code), count in figures.answers.items():
+        counts[name, code == "done"] += count
+    return ", ".join(f"`{name}` {counts[name, True]} / {counts[name, False]}" for name in sorted({it for it, _ in counts}))
 
 
 def seldom(figures):
@@ -90,12 +83,11 @@ def page(trial, given, seconds):
         + ", ".join(f"{count} {name}" for name, count in sorted(figures.compared.items()))
         + f". Nothing differed. At its end there were {last[1]} requests.",
         "## What was asked", table(("By", "Done", "Refused"), ways(figures)),
-        "Of each kind and way, how often it was done / refused, and by which refusals:",
-        table(("What", *HEADS, "Refused by"), kinds(figures)),
+        f"Of each kind, how often it was done / refused: {kinds(figures)}.",
         "`find` is a search on a page. A form that was answered by a page of its own counts once. These met "
         f"{len(figures.refusals())} different refusals, each counted once for a command or reading. Hostile texts "
         f"stood in each of {len({it[1:] for it in figures.fields})} fields, of some in several ways: {len(figures.fields)}.",
-        "What would have come too seldom by lot was made to happen each day, if there was occasion for it:",
+        "What would come too seldom at random was made to happen each day, if there was occasion for it:",
         table(("What", *HEADS), seldom(figures)),
         "![Answers by the hour of the day](year-answers.svg)",
         "## Who was signed in", table(("In a browser", "How often"), sorted(figures.sessions.items())),
