@@ -14,12 +14,12 @@ SERVED = {"http", "page (a form)", "page (read)"}
 
 
 class Night(NamedTuple):
-    """What stands at a night: memory in KiB, of the server and of one that has just made a copy, or None;
-    bytes of the file and its log; seconds of the first page."""
+    """What stands at a night: memory in KiB, that of the day's servers at most, and of the one that has just
+    started; bytes of the file and its log; seconds of the first page."""
     at: int
     requests: int
-    memory: int
-    copying: int | None
+    most: int
+    started: int
     file: int
     log: int
     home: float

@@ -66,9 +66,8 @@ def growth(figures):
     """Some ten of the nights, the last among them."""
     step = max(1, len(figures.nights) // 10)
     for it in figures.nights[::-step][::-1]:
-        copying = "–" if it.copying is None else f"{it.copying / 1024:.1f}"
-        yield (day_of(it.at), it.requests, f"{it.memory / 1024:.1f}", copying, f"{it.file / 2**20:.2f}",
-               f"{it.log / 2**20:.2f}", f"{1000 * it.home:.1f}")
+        yield (day_of(it.at), it.requests, f"{it.most / 1024:.1f}", f"{it.started / 1024:.1f}",
+               f"{it.file / 2**20:.2f}", f"{it.log / 2**20:.2f}", f"{1000 * it.home:.1f}")
 
 
 def day_of(at):
@@ -114,10 +113,10 @@ def page(trial, given, seconds):
         "The picture has the pages and the interface, by the hour; a burst of 500 isn't in it.",
         "![How long the server's answers take by the hour](year-hours.svg)",
         "## How it grew",
-        table(("Night of", "Requests", "Memory, MiB", "After a copy, MiB", "File, MiB", "Log, MiB", "Home, ms"),
+        table(("Night of", "Requests", "Memory at most, MiB", "At the start, MiB", "File, MiB", "Log, MiB", "Home, ms"),
               growth(figures)),
-        "Memory is that of the server, which a restart, a kill or a full disk had started anew within the week; after a copy, "
-        "where one was made that night. Home is the first page of the one who sees all, in the middle of five.",
+        "Memory is what the servers of the day held at most, and what the one holds that starts after the loads of the night. "
+        "Home is the first page of the one who sees all, in the middle of five.",
         "![Memory and file](year-growth.svg)", "![Home](year-home.svg)"]) + "\n"
 
 
@@ -137,8 +136,8 @@ def pictures(figures):
     ticks = [(day, day) for day, _ in nights[::max(1, len(nights) // 10)]]
     yield "year-growth.svg", picture(
         "Memory and file", "MiB", "working days",
-        {"memory after a copy": [(day, it.copying / 1024) for day, it in nights if it.copying is not None],
-         "memory": [(day, it.memory / 1024) for day, it in nights],
+        {"memory of the day at most": [(day, it.most / 1024) for day, it in nights],
+         "memory at the start": [(day, it.started / 1024) for day, it in nights],
          "file and log": [(day, (it.file + it.log) / 2**20) for day, it in nights]}, ticks)
     yield "year-home.svg", picture(
         "The first page as the desk grows", "ms", "requests",

@@ -285,22 +285,22 @@ class Trial:
 
     def do_night(self, at):
         """All tables are those of the model: of a copy while it runs, or of the file while it stands still."""
+        most = self.server.most_of_day()
         self.up()
         self.browser.evening()
-        memory, copying = self.server.memory(), None
+        started = self.server.memory()
         if len(self.figures.nights) % 3 == 2:
             path = self.programs.path("desk.db")
             self.down()
         else:
             path = faults.copied(self)
-            copying = self.server.memory()
         differs, rows = kept.difference(path, self.desk)
         if differs:
             raise Differs(f"the tables at night: {differs}")
         self.figures.compared["rows of tables"] += rows
         sizes = [os.path.getsize(it) if os.path.exists(it) else 0
                  for it in (self.programs.path("desk.db"), self.programs.path("desk.db-wal"))]
-        self.figures.night(Night(at, len(self.desk.requests), memory, copying, *sizes, self.home(at)))
+        self.figures.night(Night(at, len(self.desk.requests), most, started, *sizes, self.home(at)))
 
     def home(self, at):
         """The middle time of some looks at the first page, by one who sees all."""
