@@ -1,5 +1,5 @@
 -- What a caller is told on the pages of two desks that the caller sees alike.
-use Rattle.std.proofs.Common.{◌≡◌, ◌≢◌, ◌∙◌, ℕ, Bool, true, false, cond, List, Option, Some, None, Result}
+use Rattle.std.proofs.Common.{◌≡◌, ◌≢◌, ◌∙◌, ℕ, true, false, cond, List, Option, Some, None, Result}
 use Rattle.std.proofs.Common.{Ok, Err, ap, refl, sym, subst}
 use Rattle.settings_core.specs.declared.settings.Settings.{Settings}
 use Rattle.desk_model.specs.Commands.{IsReading}
@@ -38,14 +38,13 @@ use Rattle.find_form.specs.declared.fault.FindFault.{FindFault}
 use Rattle.find_form.specs.declared.form.FindForm.{FindForm}
 use Rattle.find_form.specs.declared.shown.Start.{Start}
 use Rattle.find_form.specs.declared.shown.Start.TheVariants.{First}
-use Rattle.page_routes.specs.declared.page.Page as routes
 use Rattle.page_routes.specs.declared.page.Page.TheVariants as page
 use Rattle.service_core.specs.Dossiers.{IsDossier}
 use Rattle.service_core.specs.TableSteps.{ask_by}
 use Rattle.service_core.proofs.RunsAlike.{tells}
 use Rattle.page_wire.specs.Laws.{AreAlike, PagesAlike, out_of_memory}
 use Rattle.page_wire.specs.Replies as replies
-use Rattle.page_wire.specs.Steps.{AreLoads, Does, FindSteps, HomeSteps, IsFound, LookSteps, LooksAt}
+use Rattle.page_wire.specs.Steps.{AreLoads, Does, FindSteps, HomeSteps, IsFound, LooksAt}
 use Rattle.page_wire.specs.Steps.{SearchFormSteps, SearchSteps}
 
 -- ---- the queue of a request that is shown
@@ -173,7 +172,7 @@ its_queue s at caller desk id d is file =
     (refl, refl) (λ e. cc) file.shown))
     ∙ file.queue
 
-dossier : declared.Shown → List Entry → QueueRow → Dossier
+abbrev dossier : declared.Shown → List Entry → QueueRow → Dossier
 dossier shown entries queue = record { shown = shown; entries = entries; queue = queue }
 
 dossiers_same : (shown other : declared.Shown) (entries others : List Entry) (queue row : QueueRow)
@@ -185,8 +184,8 @@ module _ (s : Settings) (at : ℕ) (caller : List ℕ) (one other : Desk)
     (same : view s caller one ≡ view s caller other) where
   both_told : (id : ℕ) (d e : Dossier) → IsDesk one → IsDesk other
       → IsDossier s at caller id one (Ok d) → IsDossier s at caller id other (Ok e)
-      → Ok (answer.Shown d.shown) ≡ Ok {E = Refusal} (answer.Shown e.shown)
-      → Ok (answer.History d.entries) ≡ Ok {E = Refusal} (answer.History e.entries) → d ≡ e
+      → shown_in (Ok d) ≡ shown_in (Ok e)
+      → history_in (Ok d) ≡ history_in (Ok e) → d ≡ e
   both_told id d e is are file files shown history =
       let shows : d.shown ≡ e.shown = cc in
       let tell : d.entries ≡ e.entries = cc in

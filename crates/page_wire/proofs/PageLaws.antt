@@ -1,7 +1,6 @@
 -- What holds of all pages, by their definitions.
-use Rattle.std.proofs.Common.{◌≡◌, ℕ, Bool, true, false, List, [], Option, Some, None, Result, Ok, Err}
+use Rattle.std.proofs.Common.{◌≡◌, ℕ, Bool, true, false, List, Option, Some, None, Result, Ok, Err}
 use Rattle.std.proofs.Common.{if◌then◌else◌, subst, true≢false}
-use Rattle.httparse.specs.Grammar.{RequestHead}
 use Rattle.hours_core.specs.Moment.{is_due_moment}
 use Rattle.settings_core.specs.declared.settings.Settings.{Settings}
 use Rattle.desk_model.specs.Desk.{Desk}
@@ -17,7 +16,6 @@ use Rattle.find_form.specs.declared.shown.Start.{Start}
 use Rattle.find_form.specs.declared.shown.Start.TheVariants.{First}
 use Rattle.message_core.specs.Request.{values_in}
 use Rattle.message_core.specs.declared.message.Message.{Message}
-use Rattle.message_core.specs.declared.request.Request.{Request}
 use Rattle.page_routes.specs.Places.{method_named, place_at, takes_post}
 use Rattle.page_routes.specs.Visits.{Answer, Lines, got, is_own, looked, looker, posted, visited}
 use Rattle.page_routes.specs.Visits.{visited_at}
@@ -33,20 +31,20 @@ use Rattle.page_wire.specs.Faults.{fault_reply}
 use Rattle.page_wire.specs.Laws.{LooksLeave, OtherSitesLeave, fault_elsewhere}
 use Rattle.page_wire.specs.Replies as replies
 use Rattle.page_wire.specs.Steps.{FindSteps, IfElse, LookSteps, PageSteps, SearchFormSteps}
-use Rattle.page_wire.specs.Steps.{SearchSteps, Stays, Tells, TimedPageSteps, ToldSteps}
+use Rattle.page_wire.specs.Steps.{SearchSteps, Stays, Tells, TimedPageSteps}
 
 -- ---- what is looked at stays
 
 by_either : {Goal : Type 0} (b : Bool) (Yes No : Type 0) → (Yes → Goal) → (No → Goal)
     → IfElse b Yes No → Goal
-by_either true Yes No yes no steps = yes steps
-by_either false Yes No yes no steps = no steps
+by_either true Yes No f g steps = f steps
+by_either false Yes No f g steps = g steps
 
 module _ (s : Settings) (at : ℕ) (old new : Desk) (bytes : List ℕ) where
   search_leaves : (caller query : List ℕ) (start : Start) (form : FindForm)
       (search : Result Search FindFault)
       → SearchSteps s at caller query start form search old bytes new → new ≡ old
-  search_leaves caller query start form (Ok search) steps = steps.1.1.1
+  search_leaves caller query start form (Ok search) steps = steps.2.1
   search_leaves caller query start form (Err fault) steps = steps.1
 
   form_leaves : (caller query : List ℕ) (start : Start) (form : Option FindForm)
@@ -60,13 +58,13 @@ module _ (s : Settings) (at : ℕ) (old new : Desk) (bytes : List ℕ) where
   find_leaves caller query start steps = form_leaves caller query start (form_of query) steps
 
   page_leaves : (caller : List ℕ) (of : routes.Page) → LookSteps s at caller of old bytes new → new ≡ old
-  page_leaves caller page.Home steps = steps.1.1.1.1.1.1.1.1.1
+  page_leaves caller page.Home steps = steps.8.1
   page_leaves caller (page.Queue queue) steps = find_leaves caller (replies.queue_query queue) First steps
   page_leaves caller (page.Find query start) steps = find_leaves caller query start steps
-  page_leaves caller (page.New queue) steps = steps.1.0.laws.reading tt
-  page_leaves caller (page.Request id) steps = steps.1.1.1
+  page_leaves caller (page.New queue) steps = steps.1.laws.reading tt
+  page_leaves caller (page.Request id) steps = steps.2.1
   page_leaves caller page.Overdue steps = find_leaves caller replies.late_query First steps
-  page_leaves caller page.Workload steps = steps.1.0.laws.reading tt
+  page_leaves caller page.Workload steps = steps.1.laws.reading tt
 
   look_leaves : (next : routes.Page) (caller : Option (List ℕ))
       → TimedPageSteps s at (looked next caller) old bytes new → new ≡ old
@@ -97,7 +95,7 @@ module _ (https : Bool) (s : Settings) (at : ℕ) (message : Message) (lines : L
   place_leaves (Some place) is steps =
       let told = subst (λ (m : Option Method). PageSteps s at h (visited https s at lines message.body place m)
       old bytes new) is steps in
-      got_leaves s at old new told.0 https lines place told.1.0
+      got_leaves s at old new told.0 https lines place told.1
 
   -- ---- another site
 

@@ -7,7 +7,6 @@ use Rattle.sqlite.specs.Store.{Ghosts}
 use Rattle.settings_core.specs.declared.settings.Settings.{Settings}
 use Rattle.desk_model.specs.Commands.{IsReading}
 use Rattle.desk_model.specs.Desk.{Desk}
-use Rattle.desk_model.specs.IsDesk.{IsDesk}
 use Rattle.desk_model.specs.Step.{Ask, Outcome, Steps, desk_unless, effect, guard}
 use Rattle.desk_model.specs.declared.answer.Answer.{Answer}
 use Rattle.desk_model.specs.declared.answer.Dossier.{Dossier}

@@ -37,7 +37,6 @@ use Rattle.desk_pages.specs.declared.unsent.Unsent.TheVariants.{Refused, OtherPe
 use Rattle.page_reply.specs.PageReply.{bytes_of}
 use Rattle.page_reply.specs.declared.reply.CookieChange.{CookieChange}
 use Rattle.page_reply.specs.declared.reply.CookieChange.TheVariants.{Keep, Session, Stay}
-use Rattle.page_routes.specs.declared.page.Page as routes
 use Rattle.page_routes.specs.Paths.{form_path, path_of}
 use Rattle.page_routes.specs.declared.next.Next.{Next}
 use Rattle.page_routes.specs.declared.next.Next.TheVariants as nexts

@@ -135,7 +135,9 @@ fn submit_unless_sent<S: Backend>(
     ensures left { LeavesDesk S.Store desk.old desk.new }
 {
     let dossier = desk.dossier(alloc, moment.get(), caller, id);
-    if was_sent(caller, moment, sent, &dossier) {
+    let is_there = was_sent(caller, moment, sent, &dossier);
+    drop(dossier);
+    if is_there {
         put_redirect_by(sent, room);
         Ok(())
     } else {

@@ -1,4 +1,4 @@
-use Rattle.std.proofs.Common.{◌∙◌, arith, length, length-drop, sym}
+use Rattle.std.proofs.Common.{◌∙◌, arith, length-drop, sym}
 use Rattle.std.proofs.lemmas.List.{take_all}
 use Rattle.page_wire.proofs.HeadOnly.{head_found, head_of_all, head_step}
 use Rattle.page_wire.proofs.head_only.head_in.Goals as goal

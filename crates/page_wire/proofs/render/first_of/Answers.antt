@@ -1,5 +1,5 @@
 -- what the search finds
-use Rattle.std.proofs.Common.{◌≡◌, IfOk, None, Result, subst}
+use Rattle.std.proofs.Common.{◌≡◌, IfOk, None, subst}
 use Rattle.find_core.specs.declared.search.Search.{Search}
 use Rattle.service_core.specs.Finding.{FindsOn}
 use Rattle.service_core.specs.Seen.{settings_of, tables_of}

@@ -1,5 +1,5 @@
 -- the page of what is found
-use Rattle.std.proofs.Common.{◌∙◌, subst}
+use Rattle.std.proofs.Common.{subst}
 use Rattle.find_form.specs.Shown.{place_of}
 use Rattle.service_core.specs.Finding.{FindsOn}
 use Rattle.service_core.specs.Seen.{settings_of, tables_of}

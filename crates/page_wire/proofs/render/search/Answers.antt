@@ -1,5 +1,5 @@
 -- the search that was typed, or its fault
-use Rattle.std.proofs.Common.{◌≡◌, Err, Ok, Result, refl, subst, sym}
+use Rattle.std.proofs.Common.{◌≡◌, Ok, Result, subst, sym}
 use Rattle.find_core.specs.declared.search.Search.{Search}
 use Rattle.find_form.specs.SearchFields.{search_of}
 use Rattle.find_form.specs.declared.fault.FindFault.{FindFault}

@@ -1,5 +1,5 @@
 -- the search of the form, or none
-use Rattle.std.proofs.Common.{Option, [], refl, subst, sym}
+use Rattle.std.proofs.Common.{Option, [], subst, sym}
 use Rattle.find_form.specs.Form.{filled}
 use Rattle.find_form.specs.declared.fault.FindFault.TheVariants.{Fields}
 use Rattle.find_form.specs.declared.form.FindForm.{FindForm}

@@ -1,5 +1,5 @@
 -- its second command is refused beforehand, or both are done one after the other
-use Rattle.std.proofs.Common.{◌≡◌, ◌∙◌, Option, None, Some, ap, sym}
+use Rattle.std.proofs.Common.{◌≡◌, ◌∙◌, ap, sym}
 use Rattle.settings_core.specs.declared.settings.Settings.{Settings}
 use Rattle.service_core.specs.Seen.{settings_of, tables_of}
 use Rattle.page_wire.specs.Forms.{refused_before}

@@ -1,5 +1,5 @@
 -- it sends a text to a request, or none
-use Rattle.std.proofs.Common.{◌∙◌, Option, None, Some, subst, sym}
+use Rattle.std.proofs.Common.{◌∙◌, Option, subst, sym}
 use Rattle.std.specs.Prelude.{ℕ, OnOk}
 use Rattle.service_core.specs.Seen.{settings_of, tables_of}
 use Rattle.page_wire.specs.Forms.{StepsOnceOn}
