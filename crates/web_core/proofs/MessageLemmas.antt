@@ -1,10 +1,9 @@
 -- What was read and taken is the step of its message.
-use Rattle.std.proofs.Common.{◌≡◌, ◌≢◌, ◌⊎◌, ℕ, Bool, List, false, true, Option, Result, Ok, Err, inl, inr, refl}
+use Rattle.std.proofs.Common.{◌≡◌, ◌≢◌, ℕ, Bool, List, false, true, Option, Result, Ok, Err, inl, inr, refl}
 use Rattle.std.proofs.Common.{subst}
 use Rattle.std.specs.Prelude.{MatchBool}
 use Rattle.sqlite.specs.State.{State}
 use Rattle.settings_core.specs.declared.settings.Settings.{Settings}
-use Rattle.desk_model.specs.Desk.{Desk}
 use Rattle.http_rules.specs.Expectation.{IsExpecting, expectation_failed}
 use Rattle.message_core.specs.Reply.{bytes_of, unavailable}
 use Rattle.message_core.specs.declared.fault.WireFault.{WireFault}

@@ -1,4 +1,5 @@
 -- The step of a message, after which the tables are only looked at.
+use Rattle.std.specs.Prelude.{Bool}
 use Rattle.sqlite.specs.State.{State}
 use Rattle.settings_core.specs.declared.settings.Settings.{Settings}
 use Rattle.store_tables.specs.Calls.{LeavesTables}

@@ -1,5 +1,5 @@
 -- What the log notes of a message.
-use Rattle.std.specs.Prelude.{◌≡◌, ◌⊎◌, ℕ, Bool, if◌then◌else◌, List, [], Option, Some, None, unwrap_or}
+use Rattle.std.specs.Prelude.{◌≡◌, ◌⊎◌, ℕ, Bool, if◌then◌else◌, List, [], unwrap_or}
 use Rattle.std.specs.Prelude.{Result, Ok, Err, codes}
 use Rattle.httparse.specs.Grammar.{RequestHead}
 use Rattle.settings_core.specs.declared.settings.Settings.{Settings}

@@ -1,5 +1,4 @@
 -- what it has done is a run of messages
-use Rattle.std.proofs.Common.{◌≡◌}
 use Rattle.service_core.specs.Seen.{settings_of, tables_of}
 use Rattle.http_rules.specs.Expectation.{StatesByRules}
 use Rattle.web_core.specs.Web.{IsTaken, shuts}
