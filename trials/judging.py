@@ -68,13 +68,17 @@ def handle(stream):
         stream.shutdown(1)
 def until():
     status = run.wait()
+    # what it answered last is still on its way
+    for it in threading.enumerate():
+        if it.name == "handle":
+            it.join(1)
     os._exit(status if status >= 0 else 128 - status)
 # a burst's connections wait here: one that finds no room is tried again by its sender for minutes
 listener = socket.create_server(("127.0.0.1", port), backlog=1024)
 print("listening", port, flush=True)
 threading.Thread(target=until, daemon=True).start()
 while True:
-    threading.Thread(target=handle, args=(listener.accept()[0],), daemon=True).start()
+    threading.Thread(target=handle, args=(listener.accept()[0],), name="handle", daemon=True).start()
 """
 
 

@@ -108,7 +108,7 @@ def page(trial, given, seconds):
         table(("Night of", "Requests", "Memory at most, MiB", "At the start, MiB", "File, MiB", "Log, MiB", "Home, ms"),
               growth(figures)),
         "Memory is what the servers of the day held at most, and what the one holds that starts after the loads of the night. "
-        "Home is the first page of the one who sees all, in the middle of five.",
+        "Home is the first page of the one who sees all, in the middle of five; what else the machine does shows in it.",
         "![Memory and file](year-growth.svg)", "![Home](year-home.svg)"]) + "\n"
 
 

@@ -1,12 +1,14 @@
 """Pictures of figures, as SVG: points and lines over an axis, without a library."""
 
 WIDTH, HEIGHT, LEFT, BOTTOM, TOP = 640, 240, 56, 34, 30
+# what the name of the first line takes of the height; each other one takes 13 more
+NAMED = 22
 
 
 def picture(title, unit, across, lines, ticks=()):
     """Lines by their names, each of points, over what stands across. The y axis begins at 0."""
     points = [point for of in lines.values() for point in of]
-    most_y = rounded(max((y for _, y in points), default=1))
+    most_y, top = rounded(max((y for _, y in points), default=1)), max(TOP, NAMED + 13 * (len(lines) - 1))
     first, last = min(x for x, _ in points), max(x for x, _ in points)
     parts = [f'<svg xmlns="http://www.w3.org/2000/svg" viewBox="0 0 {WIDTH} {HEIGHT}" font-family="sans-serif"'
              f' font-size="11" fill="#333">', f'<rect width="{WIDTH}" height="{HEIGHT}" fill="#fff"/>',
@@ -14,7 +16,7 @@ def picture(title, unit, across, lines, ticks=()):
              f'<text x="{WIDTH - 8}" y="{HEIGHT - 6}" text-anchor="end">{across}</text>']
 
     def place(x, y):
-        wide, high = WIDTH - LEFT - 12, HEIGHT - BOTTOM - TOP
+        wide, high = WIDTH - LEFT - 12, HEIGHT - BOTTOM - top
         return (LEFT + wide * (x - first) / max(1, last - first), HEIGHT - BOTTOM - high * y / most_y)
     parts += [grid(place(first, most_y * it / 4)[1], most_y * it / 4, unit) for it in range(5)]
     parts += [f'<text x="{place(x, 0)[0]:.0f}" y="{HEIGHT - BOTTOM + 14}" text-anchor="middle">{name}</text>'
