@@ -78,9 +78,9 @@ class Trial:
         self.checks, self.seconds, self.most = 0, 0, 0
 
     def check(self, texts, changes=()):
-        """Checks the crate with these texts: the modules that the changes stand in, or all of it
-        where none are given or one of these is the crate's root."""
-        flags = [word for it in modules_of(changes) for word in ("--only", it)]
+        """Checks of the crate with these texts what the changes stand in, or all where none are
+        given."""
+        flags = [word for it in asked_of(changes) for word in ("--only", it)]
         self.checks += 1
         with tempfile.TemporaryDirectory(dir=self.room) as copy:
             for part in LIB.PARTS:
@@ -118,16 +118,19 @@ class Trial:
         refused = judged(ran, [change])[0]
         if refused:
             return refused
-        # (a check of one module says nothing of the others, and stops where it has no function)
-        says_little = modules_of([change]) and (ran.reached() or ran.status == 2)
+        # (a check of one function says nothing of the others, and stops where there is none)
+        says_little = asked_of([change]) and (ran.reached() or ran.status == 2)
         return kind_of(self.check(texts) if says_little else ran, change)
 
 
-def modules_of(changes):
-    """The modules that the changes stand in, or none where one of them is the crate's root, so that
-    all of it is checked."""
-    found = sorted({place.module for it in changes for place in it.places})
-    return [] if "" in found else found
+def asked_of(changes):
+    """The functions that the changes stand in, by their paths; of one in an impl, which rt may
+    write below another module, all of its module. None where one stands in the crate's root, so
+    that all of the crate is checked."""
+    places = {place for it in changes for place in it.places}
+    if any(not it.module for it in places):
+        return []
+    return sorted({it.module if it.owner else f"{it.module}::{it.name}" for it in places})
 
 
 def pattern_of(crate, place, is_near):

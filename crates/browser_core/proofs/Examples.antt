@@ -1,14 +1,14 @@
 -- Examples of the definitions: cookies, fields of forms with their escapes, which fields a form
 -- has, and whose post it is.
 use Rattle.std.specs.Prelude.{◌≡◌, refl, ℕ, nat_lt, Bool, true, false, List, [], ◌∷◌, codes, Some}
-use Rattle.std.specs.Prelude.{None}
+use Rattle.std.specs.Prelude.{None, Option}
 use Rattle.std.specs.List.{list_all}
 use Rattle.std.specs.Str.{IsAscii, chars, is_utf8}
 use Rattle.std.proofs.Common.{arith}
 use Rattle.std.proofs.lemmas.Bool.Decides.{nat_tests}
 use Rattle.std.proofs.lemmas.Str.{IsUtf8-from_ascii, is_utf8-from_IsUtf8}
 use Rattle.std.proofs.lemmas.Str.Ascii.{IsAscii-cons, IsAscii-nil}
-use Rattle.browser_core.specs.Cookie.{cookie_token}
+use Rattle.browser_core.specs.Cookie.{cookie_name, cookie_named}
 use Rattle.browser_core.specs.Cuts.{before, rest_after, value_in}
 use Rattle.browser_core.specs.Form.{decoded, fields_of, has, has_fields, text_of, value_of, with_feeds}
 use Rattle.browser_core.specs.Site.{is_own_post}
@@ -70,34 +70,50 @@ half_a_character = refl
 abbrev line : List ℕ → List (List ℕ)
 line text = text ∷ []
 
-cookie_alone : cookie_token (line (codes "desk=ann-token")) ≡ Some (codes "ann-token")
+abbrev desk_in : List (List ℕ) → Option (List ℕ)
+desk_in lines = cookie_named (codes "desk") lines
+
+cookie_alone : desk_in (line (codes "desk=ann-token")) ≡ Some (codes "ann-token")
 cookie_alone = simp (utf8 (codes "ann-token") refl)
 
 cookie_among_others :
-    cookie_token (line (codes "a=1; desk=ann-token;\tb=2")) ≡ Some (codes "ann-token")
+    desk_in (line (codes "a=1; desk=ann-token;\tb=2")) ≡ Some (codes "ann-token")
 cookie_among_others = simp (utf8 (codes "ann-token") refl)
 
-cookie_with_a_sign : cookie_token (line (codes "desk=a=b")) ≡ Some (codes "a=b")
+cookie_with_a_sign : desk_in (line (codes "desk=a=b")) ≡ Some (codes "a=b")
 cookie_with_a_sign = simp (utf8 (codes "a=b") refl)
 
-cookie_without_a_value : cookie_token (line (codes "desk=")) ≡ Some []
+cookie_without_a_value : desk_in (line (codes "desk=")) ≡ Some []
 unfolding is_utf8 chars
 cookie_without_a_value = refl
 
-cookie_of_another_name : cookie_token (line (codes "desktop=1; Desk=2")) ≡ None
+cookie_of_another_name : desk_in (line (codes "desktop=1; Desk=2")) ≡ None
 cookie_of_another_name = refl
 
-no_cookie : cookie_token [] ≡ None
+no_cookie : desk_in [] ≡ None
 no_cookie = refl
 
-cookie_twice_in_a_line : cookie_token (line (codes "desk=a; desk=a")) ≡ None
+cookie_twice_in_a_line : desk_in (line (codes "desk=a; desk=a")) ≡ None
 cookie_twice_in_a_line = refl
 
-cookie_in_two_lines : cookie_token (codes "desk=a" ∷ codes "desk=b" ∷ []) ≡ None
+cookie_in_two_lines : desk_in (codes "desk=a" ∷ codes "desk=b" ∷ []) ≡ None
 cookie_in_two_lines = refl
 
-cookie_in_the_second_line : cookie_token (codes "a=1" ∷ codes "desk=b" ∷ []) ≡ Some (codes "b")
+cookie_in_the_second_line : desk_in (codes "a=1" ∷ codes "desk=b" ∷ []) ≡ Some (codes "b")
 cookie_in_the_second_line = simp (utf8 (codes "b") refl)
+
+cookie_of_the_very_host :
+    cookie_named (codes "__Host-desk") (line (codes "desk=a; __Host-desk=b")) ≡ Some (codes "b")
+cookie_of_the_very_host = simp (utf8 (codes "b") refl)
+
+cookie_of_any_host : cookie_named (codes "__Host-desk") (line (codes "desk=a")) ≡ None
+cookie_of_any_host = refl
+
+name_behind_https : cookie_name true ≡ codes "__Host-desk"
+name_behind_https = refl
+
+name_elsewhere : cookie_name false ≡ codes "desk"
+name_elsewhere = refl
 
 -- Form.antt: what bytes stand for
 

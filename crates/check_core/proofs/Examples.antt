@@ -1,6 +1,7 @@
 -- Examples of the definitions: which tokens are weak, and the line that warns of one.
-use Rattle.std.specs.Prelude.{◌≡◌, refl, codes, replicate, Some, None}
-use Rattle.check_core.specs.Weak.{warning, weakness_of}
+use Rattle.std.specs.Prelude.{◌≡◌, refl, [], codes, replicate, Some, None}
+use Rattle.settings_parts.specs.declared.people.Token.{Token}
+use Rattle.check_core.specs.Weak.{warning, warning_of, weakness_of}
 use Rattle.check_core.specs.declared.weak.Weakness.TheVariants.{ChangeMe, Example, Short}
 
 -- Weak.antt
@@ -30,3 +31,13 @@ line_of_a_warning :
     warning (codes "ann") Short
     ≡ codes "warning: the token of `ann` has fewer than 22 characters\n"
 line_of_a_warning = refl
+
+-- the token itself isn't told
+warning_of_a_short_one :
+    warning_of (record { token = codes "ann-token-0000000"; person = codes "ann" })
+    ≡ codes "warning: the token of `ann` has fewer than 22 characters\n"
+warning_of_a_short_one = refl
+
+no_warning_of_a_good_one :
+    warning_of (record { token = codes "7f3a0c1d9be24856aa10c4d3e2f1b098"; person = codes "ann" }) ≡ []
+no_warning_of_a_good_one = refl

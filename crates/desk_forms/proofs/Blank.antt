@@ -1,6 +1,6 @@
 -- What a command is made of was given: no value from before is seen.
 use Rattle.std.proofs.Common.{◌≡◌, List, ℕ, Option, arith}
-use Rattle.desk_forms.specs.Asked.{made_if}
+use Rattle.desk_forms.specs.CommandFrom.{made_if}
 use Rattle.desk_forms.specs.ArgumentSource.{ArgumentSource}
 use Rattle.desk_forms.specs.Table.{arguments}
 use Rattle.desk_forms.specs.Arguments.{Arguments, put_all}

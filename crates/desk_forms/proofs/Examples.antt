@@ -6,7 +6,7 @@ use Rattle.std.specs.Str.{bytes_eq}
 use Rattle.desk_model.specs.declared.command.Command.TheVariants as command
 use Rattle.desk_model.specs.declared.rows.LinkKind.TheVariants.{DependsOn, MemberOf, RefersTo}
 use Rattle.desk_model.specs.declared.rows.WatchRole.TheVariants.{Requestor, Cc, AdminCc}
-use Rattle.desk_forms.specs.Asked.{asked}
+use Rattle.desk_forms.specs.CommandFrom.{command_from}
 use Rattle.desk_forms.specs.Keys.{is_key}
 use Rattle.desk_forms.specs.Links.{kind_named, linking}
 use Rattle.desk_forms.specs.Number.{number_of}
@@ -163,37 +163,37 @@ sheet =
       is_set = λ k. false;
     }
 
-link_by_an_inverse : asked form.Link sheet ≡ Some (command.Link 8 MemberOf 7)
+link_by_an_inverse : command_from form.Link sheet ≡ Some (command.Link 8 MemberOf 7)
 link_by_an_inverse = refl
 
 sign_that_is_set :
-    asked form.Link (record sheet { is_set = λ k. true }) ≡ Some (command.Unlink 8 MemberOf 7)
+    command_from form.Link (record sheet { is_set = λ k. true }) ≡ Some (command.Unlink 8 MemberOf 7)
 sign_that_is_set = refl
 
-reply_with_its_text : asked form.Reply sheet ≡ Some (command.Reply 7 (codes "HasMember"))
+reply_with_its_text : command_from form.Reply sheet ≡ Some (command.Reply 7 (codes "HasMember"))
 reply_with_its_text = refl
 
-reply_on_no_request : asked form.Reply (record sheet { id = λ k. None }) ≡ None
+reply_on_no_request : command_from form.Reply (record sheet { id = λ k. None }) ≡ None
 reply_on_no_request = refl
 
-reply_without_a_text : asked form.Reply (record sheet { text = λ k. None }) ≡ None
+reply_without_a_text : command_from form.Reply (record sheet { text = λ k. None }) ≡ None
 reply_without_a_text = refl
 
-watch_in_no_role : asked form.Watch sheet ≡ None
+watch_in_no_role : command_from form.Watch sheet ≡ None
 watch_in_no_role = refl
 
 request_of_its_requestors :
-    asked form.Create sheet
+    command_from form.Create sheet
     ≡ Some (command.Create (codes "general") (codes "HasMember") None (codes "ann" ∷ []))
 request_of_its_requestors = refl
 
 -- texts were given in no form for them
-request_without_requestors : asked form.Create (record sheet { texts = λ k. None }) ≡ None
+request_without_requestors : command_from form.Create (record sheet { texts = λ k. None }) ≡ None
 request_without_requestors = refl
 
 -- and a reply has none
 reply_needs_no_texts :
-    asked form.Reply (record sheet { texts = λ k. None })
+    command_from form.Reply (record sheet { texts = λ k. None })
     ≡ Some (command.Reply 7 (codes "HasMember"))
 reply_needs_no_texts = refl
 

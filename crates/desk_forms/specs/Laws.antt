@@ -1,7 +1,7 @@
 -- What holds of the table: a command is build_command of nothing but what was given for it.
 use Rattle.std.specs.Prelude.{◌≡◌, ℕ, false, List, Option}
 use Rattle.std.specs.List.{list_any}
-use Rattle.desk_forms.specs.Asked.{made_if}
+use Rattle.desk_forms.specs.CommandFrom.{made_if}
 use Rattle.desk_forms.specs.ArgumentSource.{ArgumentSource}
 use Rattle.desk_forms.specs.Table.{arguments, build_command}
 use Rattle.desk_forms.specs.Arguments.{Arguments, is_many, put_all}

@@ -1,7 +1,7 @@
 pub use Rattle.text_core.specs.Form
 pub mod ArgumentSource
 pub mod Arguments
-pub mod Asked
+pub mod CommandFrom
 pub mod Keys
 pub mod Kinds
 pub mod Laws

@@ -1,6 +1,7 @@
 //! The table of commands: what each is given, the words and the paths that ask for it, and the
 //! command that it makes. Words, bodies and the fields of forms are read over it: a reader shows
-//! what it was given as a sheet, and `asked` is the one way from a sheet to a command, or to none.
+//! what it was given as a sheet, and `command_from` is the one way from a sheet to a command, or to
+//! none.
 //!
 //! - `args_of`, `words` and `paths` are the table, exactly.
 //! - By `given_law` what was given makes the same command whatever the values were before, so no
@@ -9,8 +10,8 @@
 //!   inverse changes the ends.
 #![tactic(auto)]
 
+pub mod argument_source;
 pub mod arguments;
-pub mod asked;
 pub mod keys;
 pub mod kinds;
 pub mod laws;

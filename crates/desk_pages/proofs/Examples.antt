@@ -1,30 +1,65 @@
 -- Examples of the definitions: pieces of pages with texts that try to be markup, and what their markup
 -- tells.
-use Rattle.std.specs.Prelude.{◌≡◌, refl, ℕ, true, false, List, [], ◌∷◌, ◌++◌, Some, None, codes}
+use Rattle.std.specs.Prelude.{◌≡◌, refl, ℕ, true, false, List, [], ◌∷◌, ◌++◌, codes}
+use Rattle.std.specs.Prelude.{Option, Some, None}
 use Rattle.std.specs.Fmt.{digits}
+use Rattle.lifecycle_core.specs.Lifecycle.{right_of_move}
+use Rattle.lifecycle_core.specs.Standard.{default_lifecycle}
+use Rattle.lifecycle_core.specs.declared.lifecycle.Class.TheVariants.{Active}
+use Rattle.lifecycle_core.specs.declared.parts.Parts.{Parts as LifecycleParts}
+use Rattle.rights_core.specs.People.{holds, is_member, leads_within, parts_of}
+use Rattle.rights_core.specs.Right.{comment_on_ticket, modify_ticket, own_ticket, reply_to_ticket}
+use Rattle.rights_core.specs.Right.{steal_ticket, super_user, take_ticket}
+use Rattle.rights_core.specs.declared.grant.Grant.{Grant}
+use Rattle.rights_core.specs.declared.grant.Subject.TheVariants.{Person}
+use Rattle.rights_core.specs.declared.parts.Parts.{Parts as PeopleParts}
+use Rattle.settings_core.specs.Settings.{people_of}
+use Rattle.settings_core.specs.declared.settings.Settings.{Settings}
+use Rattle.desk_model.specs.declared.answer.Dossier.{Dossier}
+use Rattle.desk_model.specs.declared.answer.Links.{Links}
 use Rattle.desk_model.specs.declared.answer.Load.{Load}
+use Rattle.desk_model.specs.declared.answer.Shown.{Shown}
+use Rattle.desk_model.specs.declared.refusal.Refusal.TheVariants as refusal
+use Rattle.desk_model.specs.declared.rows.EntryKind.TheVariants as kind
+use Rattle.desk_model.specs.declared.rows.RequestRow.{RequestRow}
+use Rattle.desk_model.specs.declared.rows.Turn.TheVariants.{Desk}
 use Rattle.find_core.specs.declared.search.Found.{Found}
 use Rattle.find_core.specs.declared.search.Place as find
 use Rattle.find_form.specs.declared.form.FindForm.{FindForm}
 use Rattle.find_form.specs.declared.shown.FoundPage.{FoundPage}
 use Rattle.find_form.specs.declared.shown.Start.TheVariants.{First, After}
 use Rattle.page_core.specs.Page.{page_bytes}
-use Rattle.page_core.specs.Template.{filled_from}
+use Rattle.page_core.specs.Template.{filled, filled_from}
 use Rattle.desk_pages.specs.Ask.{usual_told}
+use Rattle.desk_pages.specs.Change.{change}
 use Rattle.desk_pages.specs.Chips.{chip, chip_beside}
-use Rattle.desk_pages.specs.Lists.{link_row}
+use Rattle.desk_pages.specs.Facts.{facts}
+use Rattle.desk_pages.specs.Frame.{bare_bottom, bare_top}
+use Rattle.desk_pages.specs.History.{history, telling}
+use Rattle.desk_pages.specs.Home.{lists, section}
+use Rattle.desk_pages.specs.Lists.{link_row, members, others}
+use Rattle.desk_pages.specs.Moves.{closing_after, closings, folded, may_go, offer}
 use Rattle.desk_pages.specs.Owner.{owner_form}
+use Rattle.desk_pages.specs.Owners.{suggested}
 use Rattle.desk_pages.specs.Paging.{first_of, last_of, paging, paging_told, ways}
-use Rattle.desk_pages.specs.Pieces.{choice, is_filled, quote}
+use Rattle.desk_pages.specs.Pieces.{choice, is_filled, quote, table_end, time_or_dash}
 use Rattle.desk_pages.specs.Pills.{chosen_of}
-use Rattle.desk_pages.specs.Refused.{crumb, to_request}
-use Rattle.desk_pages.specs.Rows.{row_told}
-use Rattle.desk_pages.specs.Search.{chosen_in}
-use Rattle.desk_pages.specs.SignIn.{kept}
+use Rattle.desk_pages.specs.RefusalPage.{typed}
+use Rattle.desk_pages.specs.Refused.{crumb, front_after, front_of, to_request}
+use Rattle.desk_pages.specs.Request.{request_acts, request_shown, request_top, writing}
+use Rattle.desk_pages.specs.Rights.{may_change_owner, may_comment, may_modify, may_reply}
+use Rattle.desk_pages.specs.Rows.{asking, cells, late_by, row, row_end, row_told, row_top, table}
+use Rattle.desk_pages.specs.Search.{chosen_in, search_form}
+use Rattle.desk_pages.specs.SignIn.{kept, sign_in_page}
 use Rattle.desk_pages.specs.Sought.{heading_of, is_told, place_of, title_of, told}
 use Rattle.desk_pages.specs.Unsent.{other_heading, other_note, said_of}
 use Rattle.desk_pages.specs.Workload.{late_told, most}
+use Rattle.desk_pages.specs.Write.{move_too, reply}
 use Rattle.desk_pages.specs.declared.frame.Place.TheVariants as at
+use Rattle.desk_pages.specs.declared.markup.home.TheConstants.{HOME_TOP}
+use Rattle.desk_pages.specs.declared.markup.rows.TheConstants.{TABLE_TOP}
+use Rattle.desk_pages.specs.declared.markup.search.TheConstants.{SEARCH}
+use Rattle.desk_pages.specs.declared.markup.sign_in.TheConstants.{SIGN_IN, SIGN_IN_END}
 use Rattle.desk_pages.specs.declared.unsent.Unsent.TheVariants.{OtherPerson}
 
 choice_that_tries_to_be_markup :
@@ -297,3 +332,348 @@ paging_after_the_last :
     paging_told (After place) (record { rows = []; count = 9; earlier = None; later = None })
     ≡ false ∷ false ∷ false ∷ true ∷ true ∷ false ∷ false ∷ []
 paging_after_the_last = refl
+
+-- ---- rows
+
+late_a_minute_after_it : late_by 10 (Some 9) ≡ 1
+late_a_minute_after_it = refl
+
+not_late_at_its_very_minute : late_by 9 (Some 9) ≡ 0
+not_late_at_its_very_minute = refl
+
+never_late_before_it : late_by 8 (Some 9) ≡ 0
+never_late_before_it = refl
+
+never_late_where_it_is_not_due : late_by 8 None ≡ 0
+never_late_where_it_is_not_due = refl
+
+row_that_nobody_owns :
+    page_bytes (row_top (codes "bob") true found)
+    ≡ codes "<tr class=\" nobody late\"><td>3</td><th scope=\"row\"><a href=\"/desk/requests/3\" dir=\"auto\">&lt;b&gt;</a> "
+unfolding digits filled_from row_top
+row_that_nobody_owns = refl
+
+row_of_ones_own :
+    page_bytes (row_top (codes "bob") false (record found { owner = Some (codes "bob"); class = Some Active }))
+    ≡ codes "<tr class=\"active mine\"><td>3</td><th scope=\"row\"><a href=\"/desk/requests/3\" dir=\"auto\">&lt;b&gt;</a> "
+unfolding digits filled_from row_top
+row_of_ones_own = refl
+
+row_of_another_owner :
+    page_bytes (row_top (codes "bob") false (record found { owner = Some (codes "bo") }))
+    ≡ codes "<tr class=\"\"><td>3</td><th scope=\"row\"><a href=\"/desk/requests/3\" dir=\"auto\">&lt;b&gt;</a> "
+unfolding digits filled_from row_top
+row_of_another_owner = refl
+
+-- each of them stands in it, in their order
+table_of_two :
+    table (codes "Late") (codes "bob") 10 (found ∷ record found { id = 4 } ∷ [])
+    ≡ filled TABLE_TOP.now (codes "Late" ∷ []) []
+    ++ (row (codes "bob") 10 found ++ (row (codes "bob") 10 (record found { id = 4 }) ++ table_end))
+unfolding asking cells digits filled_from row row_end row_top table table_end time_or_dash
+table_of_two = refl
+
+-- ---- links
+
+abbrev no_links : Links
+no_links =
+    record {
+      depends_on = [];
+      depended_on_by = [];
+      member_of = [];
+      has_member = [];
+      refers_to = [];
+      referred_to_by = [];
+    }
+
+-- the button takes away the link of the kind that stands above it
+member_of_one_request :
+    page_bytes (members true 3 (codes "bob") (record no_links { member_of = 12 ∷ [] }))
+    ≡ codes "<div><dt>Member of</dt><dd><a href=\"/desk/requests/12\">12</a> <form method=\"post\" action=\"/desk/requests/3/unlink\"><input type=\"hidden\" name=\"me\" value=\"bob\"><input type=\"hidden\" name=\"kind\" value=\"MemberOf\"><input type=\"hidden\" name=\"other\" value=\"12\"><button><span aria-hidden=\"true\">"
+    ++ (195 ∷ (151 ∷ codes "</span><span class=\"off\">Unlink 12</span></button></form> </dd></div>\n"))
+unfolding digits filled_from link_row others
+member_of_one_request = refl
+
+two_members_without_buttons :
+    page_bytes (members false 3 (codes "bob") (record no_links { has_member = 4 ∷ 12 ∷ [] }))
+    ≡ codes "<div><dt>Has members</dt><dd><a href=\"/desk/requests/4\">4</a> <a href=\"/desk/requests/12\">12</a> </dd></div>\n"
+unfolding digits filled_from link_row others
+two_members_without_buttons = refl
+
+-- ---- what happened
+
+owner_changed :
+    page_bytes (telling kind.Owner (codes "bob") (codes "<i>"))
+    ≡ codes "changed the owner from <b>bob</b> to <b>&lt;i&gt;</b>\n"
+unfolding filled_from telling
+owner_changed = refl
+
+-- the role stands in the head of such an entry
+person_put_in :
+    page_bytes (telling kind.Watch (codes "cc") (codes "eve")) ≡ codes "put <b>eve</b> into <b>cc</b>\n"
+unfolding filled_from telling
+person_put_in = refl
+
+-- ---- forms
+
+form_with_all_that_was_typed :
+    search_form true
+    (record form { queue = codes "help"; status = codes "new"; owner = codes "Me"; requestor = codes "bob";
+      from = codes "2026-03-01"; to = codes "2026-03-09" })
+    ≡ filled SEARCH.now
+    (codes "printer" ∷ codes "help" ∷ codes "new" ∷ codes "Me" ∷ codes "bob" ∷ codes "2026-03-01"
+    ∷ codes "2026-03-09" ∷ [])
+    (true ∷ false ∷ true ∷ false ∷ false ∷ true ∷ false ∷ true ∷ false ∷ false ∷ false ∷ false ∷ [])
+unfolding search_form
+form_with_all_that_was_typed = refl
+
+ones_own_is_untaken :
+    page_bytes (owner_form 3 (codes "bob") (Some (codes "bob")))
+    ≡ codes "<form method=\"post\" action=\"/desk/requests/3/untake\"><input type=\"hidden\" name=\"me\" value=\"bob\"><button>Untake it</button></form>\n"
+unfolding digits filled_from owner_form
+ones_own_is_untaken = refl
+
+another_persons_is_stolen :
+    page_bytes (owner_form 3 (codes "bob") (Some (codes "eve")))
+    ≡ codes "<form method=\"post\" action=\"/desk/requests/3/steal\"><input type=\"hidden\" name=\"me\" value=\"bob\"><button>Steal it from eve</button></form>\n"
+unfolding digits filled_from owner_form
+another_persons_is_stolen = refl
+
+-- a text that was typed stands there once more, and the status is ticked
+reply_that_was_typed :
+    page_bytes (typed (reply 3 (codes "bob") (codes "<b>") (Some (codes "resolved")) true))
+    ≡ codes "<div class=\"write\">\n<form method=\"post\" action=\"/desk/requests/3/reply\">\n<input type=\"hidden\" name=\"me\" value=\"bob\">\n<label for=\"text\">Reply, to all who may see the request</label>\n<textarea id=\"text\" name=\"text\" rows=\"5\" dir=\"auto\" required>\n&lt;b&gt;</textarea>\n<label class=\"line\"><input type=\"checkbox\" name=\"status\" checked value=\"resolved\"> and make it resolved</label>\n<button>Reply</button>\n</form>\n</div>\n"
+unfolding digits filled_from move_too reply
+reply_that_was_typed = refl
+
+-- ---- what is told of a refusal
+
+after_a_first_command :
+    front_after refusal.Unavailable
+    ≡ codes "The desk couldn" ++ (226 ∷ (128 ∷ (153 ∷ codes "t do this just now: please try again in a moment.")))
+unfolding front_after
+after_a_first_command = refl
+
+other_refusals_after_it : front_after refusal.SelfLink ≡ front_of refusal.SelfLink
+unfolding front_after
+other_refusals_after_it = refl
+
+-- no page says more of a token than that there is none
+token_that_was_refused :
+    sign_in_page (codes "/desk/overdue") true false
+    ≡ bare_top (codes "Sign in")
+    ++ (filled SIGN_IN.now (codes "/desk/overdue" ∷ []) (true ∷ false ∷ [])
+    ++ (filled SIGN_IN_END.now [] (false ∷ []) ++ bare_bottom))
+token_that_was_refused = refl
+
+-- ---- the first page
+
+lists_of_the_first_page :
+    lists (codes "bob") 10 (record { rows = []; count = 0 }) (record { rows = []; count = 2 })
+    ≡ filled HOME_TOP.now [] []
+    ++ (section (codes "You own") (codes "owner=Me&state=open&order=due") (codes "bob") 10 (record { rows = []; count = 0 })
+    ++ section (codes "You asked for") (codes "requestor=Me&state=open&order=due") (codes "bob") 10
+    (record { rows = []; count = 2 }))
+unfolding lists
+lists_of_the_first_page = refl
+
+-- ---- what a person may do
+
+abbrev row_of_help : RequestRow
+row_of_help =
+    record {
+      id = 3;
+      queue = codes "help";
+      subject = codes "Ink";
+      status = codes "new";
+      owner = None;
+      level = None;
+      created = 1;
+      opened = 1;
+      turn = Desk;
+      since = 1;
+    }
+
+-- a request of ann's in this status, that this person owns
+abbrev owned_by : Option (List ℕ) → List ℕ → Shown
+owned_by owner status =
+    record {
+      row = record row_of_help { owner = owner; status = status };
+      requestors = codes "ann" ∷ [];
+      cc = [];
+      admin_cc = [];
+      due = None;
+      links = no_links;
+    }
+
+abbrev new : Shown
+new = owned_by None (codes "new")
+
+-- a request that eve owns
+abbrev eves : Shown
+eves = owned_by (Some (codes "eve")) (codes "open")
+
+abbrev grant : List ℕ → List ℕ → Grant
+grant person right = record { right = right; subject = Person person; queue = None }
+
+-- bob may own, take and steal; eve may own, and ann reply
+abbrev people : PeopleParts
+people =
+    parts_of (codes "ann" ∷ codes "bob" ∷ codes "eve" ∷ [])
+    []
+    (grant (codes "bob") (codes "OwnTicket")
+    ∷ grant (codes "bob") (codes "TakeTicket")
+    ∷ grant (codes "bob") (codes "StealTicket")
+    ∷ grant (codes "eve") (codes "OwnTicket")
+    ∷ grant (codes "eve") (codes "ModifyTicket")
+    ∷ grant (codes "ann") (codes "ReplyToTicket")
+    ∷ [])
+
+one_who_may_steal :
+    (settings : Settings) → people_of settings ≡ people
+    → may_change_owner settings eves (codes "bob") ≡ true
+unfolding holds is_member leads_within own_ticket steal_ticket super_user
+one_who_may_steal settings e = rw e refl
+
+-- of what another person owns
+one_who_may_only_own :
+    (settings : Settings) → people_of settings ≡ people
+    → may_change_owner settings (owned_by (Some (codes "bob")) (codes "open")) (codes "eve") ≡ false
+unfolding holds is_member leads_within own_ticket steal_ticket super_user
+one_who_may_only_own settings e = rw e refl
+
+ones_own_is_always_let_go :
+    (settings : Settings) → may_change_owner settings eves (codes "eve") ≡ true
+ones_own_is_always_let_go settings = refl
+
+one_who_may_take :
+    (settings : Settings) → people_of settings ≡ people
+    → may_change_owner settings new (codes "bob") ≡ true
+unfolding holds is_member leads_within own_ticket super_user take_ticket
+one_who_may_take settings e = rw e refl
+
+one_who_may_own_but_not_take :
+    (settings : Settings) → people_of settings ≡ people
+    → may_change_owner settings new (codes "eve") ≡ false
+unfolding holds is_member leads_within own_ticket super_user take_ticket
+one_who_may_own_but_not_take settings e = rw e refl
+
+-- not ann, who may not own it
+owners_that_are_suggested :
+    (settings : Settings) → people_of settings ≡ people
+    → suggested settings new ≡ codes "bob" ∷ codes "eve" ∷ []
+unfolding holds is_member leads_within own_ticket super_user
+owners_that_are_suggested settings e = rw e refl
+
+requestor_replies :
+    (settings : Settings) → people_of settings ≡ people
+    → may_reply settings new (codes "ann") ≡ true
+unfolding holds is_member leads_within reply_to_ticket super_user
+requestor_replies settings e = rw e refl
+
+but_may_not_comment :
+    (settings : Settings) → people_of settings ≡ people
+    → may_comment settings new (codes "ann") ≡ false
+unfolding comment_on_ticket holds is_member leads_within super_user
+but_may_not_comment settings e = rw e refl
+
+nor_take_persons_out :
+    (settings : Settings) → people_of settings ≡ people
+    → may_modify settings new (codes "ann") ≡ false
+unfolding holds is_member leads_within modify_ticket super_user
+nor_take_persons_out settings e = rw e refl
+
+one_who_takes_persons_out :
+    (settings : Settings) → people_of settings ≡ people
+    → may_modify settings new (codes "eve") ≡ true
+unfolding holds is_member leads_within modify_ticket super_user
+one_who_takes_persons_out settings e = rw e refl
+
+-- ---- moves
+
+move_with_its_right :
+    (settings : Settings) → people_of settings ≡ people
+    → may_go settings new (codes "eve") default_lifecycle (codes "open") ≡ true
+unfolding default_lifecycle holds is_member leads_within right_of_move super_user
+move_with_its_right settings e = rw e refl
+
+move_without_its_right :
+    (settings : Settings) → people_of settings ≡ people
+    → may_go settings new (codes "bob") default_lifecycle (codes "open") ≡ false
+unfolding default_lifecycle holds is_member leads_within right_of_move super_user
+move_without_its_right settings e = rw e refl
+
+-- whatever right one holds
+no_move_to_the_same_status :
+    (settings : Settings) → may_go settings new (codes "eve") default_lifecycle (codes "new") ≡ false
+unfolding default_lifecycle
+no_move_to_the_same_status settings = refl
+
+-- a reply doesn't move a request that is new
+closing_of_a_new_one : closing_after (Some default_lifecycle) (codes "new") ≡ Some (codes "resolved")
+unfolding default_lifecycle
+closing_of_a_new_one = refl
+
+-- from rejected to open, and from there to resolved
+abbrev two_moves : LifecycleParts
+two_moves =
+    record default_lifecycle {
+      moves =
+          record { from = codes "rejected"; to = codes "open" }
+          ∷ record { from = codes "open"; to = codes "resolved" } ∷ [];
+    }
+
+-- the reply opens it, and it is closed from there
+closing_of_a_rejected_one :
+    closing_after (Some two_moves) (codes "rejected") ≡ Some (codes "resolved")
+unfolding default_lifecycle
+closing_of_a_rejected_one = refl
+
+closing_without_a_lifecycle : closing_after None (codes "new") ≡ None
+closing_without_a_lifecycle = refl
+
+-- the first stands by itself, what follows it behind a fold
+two_inactive_statuses :
+    page_bytes (closings default_lifecycle (λ status. true) (codes "resolved" ∷ codes "rejected" ∷ []))
+    ≡ codes "<button name=\"status\" value=\"resolved\"><span class=\"state inactive\">resolved</span></button>\n<details class=\"more\">\n<summary>More</summary>\n<div>\n<button name=\"status\" value=\"rejected\"><span class=\"state inactive\">rejected</span></button>\n</div>\n</details>\n"
+unfolding default_lifecycle filled_from folded offer
+two_inactive_statuses = refl
+
+-- no fold round nothing
+one_inactive_status :
+    page_bytes (closings default_lifecycle (λ status. true) (codes "resolved" ∷ []))
+    ≡ codes "<button name=\"status\" value=\"resolved\"><span class=\"state inactive\">resolved</span></button>\n"
+unfolding default_lifecycle filled_from folded offer
+one_inactive_status = refl
+
+-- ---- the page of a request
+
+abbrev dossier : Dossier
+dossier =
+    record {
+      shown = new;
+      entries = [];
+      queue = record { name = codes "help"; lifecycle = codes "default"; level = None };
+    }
+
+-- a requestor isn't offered to close it
+acts_of_its_requestor :
+    (settings : Settings) → people_of settings ≡ people
+    → request_acts 3 (codes "ann") settings dossier
+    ≡ writing 3 (codes "ann") None true false ++ change (codes "ann") settings dossier
+unfolding comment_on_ticket holds is_member leads_within reply_to_ticket super_user
+acts_of_its_requestor settings e = rw e refl
+
+shown_with_buttons :
+    (settings : Settings) → people_of settings ≡ people
+    → request_shown 3 (codes "eve") 10 settings dossier
+    ≡ request_top row_of_help ++ (facts true 3 (codes "eve") 10 settings dossier ++ history [])
+unfolding holds is_member leads_within modify_ticket super_user
+shown_with_buttons settings e = rw e refl
+
+shown_without_buttons :
+    (settings : Settings) → people_of settings ≡ people
+    → request_shown 3 (codes "ann") 10 settings dossier
+    ≡ request_top row_of_help ++ (facts false 3 (codes "ann") 10 settings dossier ++ history [])
+unfolding holds is_member leads_within modify_ticket super_user
+shown_without_buttons settings e = rw e refl

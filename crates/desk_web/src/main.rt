@@ -24,8 +24,8 @@ const FAILED_WRITE: u8 = 4;
 /// `desk_web --db FILE --settings FILE --port N` serves the desk of that file to all who connect to
 /// that port on the loopback. With `--count K` it ends once it has answered K messages, with
 /// `--log` it prints a line for each, and with `--proxy` that has the address that the proxy tells.
-/// With `--copies FILE` it copies its tables there when it is asked to. `--help` and `--version` tell of
-/// it. All else is `bad words`.
+/// With `--https` the cookie of its pages goes by HTTPS alone. With `--copies FILE` it copies its tables
+/// there when it is asked to. `--help` and `--version` tell of it. All else is `bad words`.
 fn main(rt: HostRuntime) -> ExitCode {
     match words_of(&rt) {
         Ok(words) => ExitCode::from(run(&rt, words.as_slice())),

@@ -25,11 +25,13 @@ pub struct Asked<'w> {
     pub copies: Option<&'w str>,
     /// Whether it stands behind a proxy, which tells where messages come from.
     pub proxied: bool,
+    /// Whether browsers come by HTTPS, which the proxy speaks.
+    pub https: bool,
 }
 
 /// What words ask of the server: `--db FILE --settings FILE --port N` and maybe `--count K`,
-/// `--copies FILE`, `--log` and `--proxy`, in any order. None where they are other words, an option stands
-/// there twice, a number isn't 1 to 10 digits, or is 0 or too great.
+/// `--copies FILE`, `--log`, `--proxy` and `--https`, in any order. None where they are other words, an
+/// option stands there twice, a number isn't 1 to 10 digits, or is 0 or too great.
 pub fn asked_of<'w>(alloc: Global, words: &'w [String]) -> Option<Asked<'w>> {
     let Ok(command) = command_line(alloc) else {
         return None;
@@ -51,6 +53,7 @@ fn asked_by<'w>(matches: &ArgMatches<'w>) -> Option<Asked<'w>> {
         copies: matches.get_str("copies"),
         log: matches.get_flag("log"),
         proxied: matches.get_flag("proxy"),
+        https: matches.get_flag("https"),
     })
 }
 
@@ -83,7 +86,8 @@ fn command_line<'w>(alloc: Global) -> Result<App<'w>, AllocError> {
     let command = command.arg(option(alloc, "count"))?;
     let command = command.arg(option(alloc, "copies"))?;
     let command = command.arg(flag(alloc, "log"))?;
-    command.arg(flag(alloc, "proxy"))
+    let command = command.arg(flag(alloc, "proxy"))?;
+    command.arg(flag(alloc, "https"))
 }
 
 /// An option without a value.

@@ -51,7 +51,7 @@ pub fn serve_over<S: Backend + Drop, W: Write>(
                 made: 0,
                 second: None,
             };
-            let mut web = WebDesk::new(rt.alloc(), desk, system, asked.proxied);
+            let mut web = WebDesk::new(rt.alloc(), desk, system, asked.proxied, asked.https);
             let status = listen(rt, asked, &mut web);
             let (store, _) = web.into_desk().detach();
             (status, Some(store.release()))

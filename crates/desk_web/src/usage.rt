@@ -13,9 +13,12 @@ Options:
   --count K         End once K messages are answered
   --log             Print a line for each message
   --proxy           A proxy stands in front: its X-Forwarded-For goes into the log
+  --https           Browsers come by HTTPS: their cookie goes by that alone
   --copies FILE     Where POST /copy puts a copy of the tables
   --help            Print help, alone
   --version         Print the version, alone";
 
 /// The names of its options.
-pub const OPTIONS: [&str; 7] = ["db", "settings", "port", "count", "log", "proxy", "copies"];
+pub const OPTIONS: [&str; 8] = [
+    "db", "settings", "port", "count", "log", "proxy", "https", "copies",
+];

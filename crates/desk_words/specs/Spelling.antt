@@ -9,7 +9,7 @@ use Rattle.desk_model.specs.declared.command.Command.{Command}
 use Rattle.desk_forms.specs.Number.{number_of}
 use Rattle.desk_words.specs.Line.{line}
 use Rattle.desk_forms.specs.ArgumentSource.{ArgumentSource}
-use Rattle.desk_forms.specs.Asked.{asked}
+use Rattle.desk_forms.specs.CommandFrom.{command_from}
 use Rattle.desk_forms.specs.Table as table
 use Rattle.desk_forms.specs.Words.{row_in}
 
@@ -35,7 +35,7 @@ sheet_of rows = record {
 -- the command of a subcommand and of what it was given
 abbrev pub command_in : Text × List Row → Option Command
 command_in met =
-    option_and_then (λ row. asked row.leads (sheet_of met.1)) (row_in table.words met.0)
+    option_and_then (λ row. command_from row.leads (sheet_of met.1)) (row_in table.words met.0)
 
 abbrev pub unless_fault : Kinds → Option (Text × List Row) → Option Command
 unless_fault [] met = option_and_then command_in met

@@ -16,7 +16,7 @@ use crate::fault::WordsFault;
 use crate::line::needed_for;
 use clap::error::ErrorKind;
 use clap::{ArgMatches, Command as App};
-use desk_forms::asked::{ArgumentSource, asked};
+use desk_forms::argument_source::{ArgumentSource, command_from};
 use desk_forms::number_of_word;
 use desk_forms::words::row_of;
 use desk_model::Command;
@@ -50,7 +50,7 @@ fn command_in(
     ensures { IfOk result (λ c. c ≡ spelling.command_in (name.now, given_to given.now)) }
 {
     match row_of(name) {
-        Some(row) => asked(alloc, row.1, &CommandLineArguments(given)),
+        Some(row) => command_from(alloc, row.1, &CommandLineArguments(given)),
         None => Ok(None),
     }
 }

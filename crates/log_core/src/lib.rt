@@ -7,4 +7,4 @@ mod note;
 mod word;
 
 pub use line::{Stamp, put_line, stamp_of};
-pub use note::{Note, note_of};
+pub use note::{Note, address_of, note_of};

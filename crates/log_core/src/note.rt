@@ -47,8 +47,9 @@ fn put_next(out: &mut Vec<u8>, most: usize, bytes: &[u8]) -> Result<(), AllocErr
     put_word(out, most, bytes)
 }
 
-/// What stands behind the last comma, without its spaces.
-fn address_of(alloc: Global, forwarded: &[u8]) -> Result<Vec<u8>, AllocError>
+/// What stands behind the last comma, without its spaces: the address that a proxy adds at the end of
+/// its line `X-Forwarded-For`.
+pub fn address_of(alloc: Global, forwarded: &[u8]) -> Result<Vec<u8>, AllocError>
     ensures { IfOk result (λ out. out.items ≡ form.address_of forwarded.now) }
 {
     let mut out = Vec::new(alloc);

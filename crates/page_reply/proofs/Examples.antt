@@ -4,9 +4,10 @@ use Rattle.std.specs.Prelude.{◌≡◌, refl, ℕ, true, false, List, [], ◌++
 use Rattle.std.specs.Fmt.{digits}
 use Rattle.message_core.specs.ReplyHead.{content_length_line, content_type_line, last_line}
 use Rattle.message_core.specs.ReplyHead.{status_line}
-use Rattle.page_reply.specs.PageReply.{allow_line, bytes_of, cookie_line, forget_line, guard_lines}
+use Rattle.page_reply.specs.PageReply.{allow_line, bytes_of, cookie_line, cookie_start, forget_line}
+use Rattle.page_reply.specs.PageReply.{guard_lines}
 use Rattle.page_reply.specs.PageReply.{keep_lines, leads_line, location_line, own_lines, page_kind}
-use Rattle.page_reply.specs.PageReply.{session_line, sheet_bytes, sheet_kind, stay_line, way_to}
+use Rattle.page_reply.specs.PageReply.{secure, session_line, sheet_bytes, sheet_kind, stay_line, way_to}
 use Rattle.page_reply.specs.declared.reply.CookieChange.TheVariants.{Keep, Session, Stay, Forget}
 use Rattle.page_reply.specs.declared.reply.Methods.TheVariants.{Get, GetAndPost}
 use Rattle.page_reply.specs.declared.reply.PageReply.{PageReply}
@@ -17,24 +18,43 @@ cookie_that_stays_as_it_is : cookie_line Keep ≡ []
 cookie_that_stays_as_it_is = refl
 
 cookie_of_a_session :
-    cookie_line (Session (codes "abc"))
+    cookie_line (Session false (codes "abc"))
     ≡ codes "Set-Cookie: desk=abc; Path=/; HttpOnly; SameSite=Lax\r\n"
-unfolding session_line
+unfolding session_line cookie_start secure
 cookie_of_a_session = refl
+
+session_behind_https :
+    cookie_line (Session true (codes "abc"))
+    ≡ codes "Set-Cookie: __Host-desk=abc; Secure; Path=/; HttpOnly; SameSite=Lax\r\n"
+unfolding session_line cookie_start secure
+session_behind_https = refl
 
 -- thirty days
 cookie_that_outlasts_it :
-    cookie_line (Stay (codes "abc"))
+    cookie_line (Stay false (codes "abc"))
     ≡ codes "Set-Cookie: desk=abc; Path=/; Max-Age=2592000; HttpOnly; SameSite=Lax\r\n"
-unfolding stay_line
+unfolding stay_line cookie_start secure
 cookie_that_outlasts_it = refl
 
+outlasting_behind_https :
+    cookie_line (Stay true (codes "abc"))
+    ≡ codes "Set-Cookie: __Host-desk=abc; Secure; Path=/; Max-Age=2592000; HttpOnly; SameSite=Lax\r\n"
+unfolding stay_line cookie_start secure
+outlasting_behind_https = refl
+
 cookie_that_goes :
-    cookie_line Forget
+    cookie_line (Forget false)
     ≡ codes "Set-Cookie: desk=; Path=/; Max-Age=0; HttpOnly; SameSite=Lax\r\n"
     ++ codes "Clear-Site-Data: \"cache\"\r\n"
-unfolding forget_line
+unfolding forget_line cookie_start secure
 cookie_that_goes = refl
+
+going_behind_https :
+    cookie_line (Forget true)
+    ≡ codes "Set-Cookie: __Host-desk=; Secure; Path=/; Max-Age=0; HttpOnly; SameSite=Lax\r\n"
+    ++ codes "Clear-Site-Data: \"cache\"\r\n"
+unfolding forget_line cookie_start secure
+going_behind_https = refl
 
 leads_nowhere : location_line None ≡ []
 leads_nowhere = refl
@@ -97,14 +117,14 @@ bytes_of_a_signing_in :
     bytes_of
     (record page {
       status = 303;
-      cookie = Session (codes "abc");
+      cookie = Session false (codes "abc");
       location = Some (codes "/desk/");
       page = [];
     })
     ≡ codes "HTTP/1.1 303 See Other\r\nContent-Type: text/html; charset=utf-8\r\n"
     ++ (codes "Content-Length: 0\r\nSet-Cookie: desk=abc; Path=/; HttpOnly; SameSite=Lax\r\n"
     ++ (codes "Location: /desk/\r\n" ++ guards))
-unfolding status_line content_type_line content_length_line last_line page_kind own_lines session_line leads_line allow_line guard_lines digits
+unfolding status_line content_type_line content_length_line last_line page_kind own_lines session_line cookie_start secure leads_line allow_line guard_lines digits
 bytes_of_a_signing_in = refl
 
 bytes_of_the_sheet :

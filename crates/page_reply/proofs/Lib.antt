@@ -1,2 +1,3 @@
+pub mod CookieLemmas
 mod Examples
 pub mod WayLemmas

@@ -1,6 +1,7 @@
 -- The bytes of a reply with a page, and of the style sheet.
-use Rattle.std.specs.Prelude.{ℕ, if◌then◌else◌, List, [], ◌++◌, length, codes}
+use Rattle.std.specs.Prelude.{ℕ, Bool, true, false, if◌then◌else◌, List, [], ◌++◌, length, codes}
 use Rattle.std.specs.Prelude.{Option, Some, None}
+use Rattle.browser_core.specs.Cookie.{cookie_name}
 use Rattle.message_core.specs.ReplyHead.{head_with}
 use Rattle.page_reply.specs.declared.reply.CookieChange.{CookieChange}
 use Rattle.page_reply.specs.declared.reply.CookieChange.TheVariants.{Keep, Session, Stay, Forget}
@@ -12,28 +13,38 @@ use Rattle.page_reply.specs.declared.reply.PageReply.{PageReply as Given}
 unfoldable pub page_kind : List ℕ
 page_kind = codes "text/html; charset=utf-8"
 
--- a cookie goes with no message that another site makes, but for one that opens a page, and no
--- script reads it
-unfoldable pub session_line : List ℕ → List ℕ
-session_line text =
-    codes "Set-Cookie: desk=" ++ (text ++ codes "; Path=/; HttpOnly; SameSite=Lax\r\n")
+-- behind HTTPS a cookie goes by HTTPS alone
+unfoldable pub secure : Bool → List ℕ
+secure true = codes "; Secure"
+secure false = []
 
-unfoldable pub stay_line : List ℕ → List ℕ
-stay_line text =
-    codes "Set-Cookie: desk="
-    ++ (text ++ codes "; Path=/; Max-Age=2592000; HttpOnly; SameSite=Lax\r\n")
+-- what its line begins with
+unfoldable pub cookie_start : Bool → List ℕ → List ℕ
+cookie_start https text =
+    codes "Set-Cookie: " ++ ((cookie_name https ++ (codes "=" ++ text)) ++ secure https)
+
+-- it goes with no message that another site makes, but for one that opens a page, and no script
+-- reads it
+unfoldable pub session_line : Bool → List ℕ → List ℕ
+session_line https text =
+    cookie_start https text ++ codes "; Path=/; HttpOnly; SameSite=Lax\r\n"
+
+unfoldable pub stay_line : Bool → List ℕ → List ℕ
+stay_line https text =
+    cookie_start https text ++ codes "; Path=/; Max-Age=2592000; HttpOnly; SameSite=Lax\r\n"
 
 -- no page that was seen is kept either, for whoever goes back
-unfoldable pub forget_line : List ℕ
-forget_line =
-    codes "Set-Cookie: desk=; Path=/; Max-Age=0; HttpOnly; SameSite=Lax\r\n"
-    ++ codes "Clear-Site-Data: \"cache\"\r\n"
+unfoldable pub forget_line : Bool → List ℕ
+forget_line https =
+    cookie_start https []
+    ++ (codes "; Path=/; Max-Age=0; HttpOnly; SameSite=Lax\r\n"
+    ++ codes "Clear-Site-Data: \"cache\"\r\n")
 
 abbrev pub cookie_line : CookieChange → List ℕ
 cookie_line Keep = []
-cookie_line (Session text) = session_line text
-cookie_line (Stay text) = stay_line text
-cookie_line Forget = forget_line
+cookie_line (Session https text) = session_line https text
+cookie_line (Stay https text) = stay_line https text
+cookie_line (Forget https) = forget_line https
 
 unfoldable pub leads_line : List ℕ → List ℕ
 leads_line path = codes "Location: " ++ (path ++ codes "\r\n")

@@ -5,20 +5,22 @@ ghost use Rattle.http.specs.StatusCode.{IsStatusCode};
 ghost use Rattle.message_core.specs.ReplyHead.{head_start, last_line};
 ghost use Rattle.page_reply.specs.PageReply as form;
 
+use browser_core::cookie_name;
 use message_core::{add_text, end_head, start_head};
 use std::alloc::{AllocError, Global};
 use text_core::{Sequence, Text};
 
-/// What a reply does to the browser's cookie.
+/// What a reply does to the browser's cookie: that which browsers take by HTTPS alone, or the plain
+/// one.
 #[derive(Drop)]
 pub enum CookieChange {
     Keep,
     /// It is this one until the browser ends.
-    Session(Text),
+    Session { https: bool, text: Text },
     /// It is this one for 30 days.
-    Stay(Text),
+    Stay { https: bool, text: Text },
     /// It goes, and the pages that the browser keeps.
-    Forget,
+    Forget { https: bool },
 }
 
 /// Which methods a place takes; HEAD goes with GET.
@@ -113,45 +115,55 @@ fn add_cookie_line(out: &mut Vec<u8>, cookie: &CookieChange) -> Result<(), Alloc
 {
     match cookie {
         CookieChange::Keep => Ok(()),
-        CookieChange::Session(text) => add_session_line(out, text.as_str()),
-        CookieChange::Stay(text) => add_stay_line(out, text.as_str()),
-        CookieChange::Forget => add_forget_line(out),
+        CookieChange::Session { https, text } => add_session_line(out, *https, text.as_str()),
+        CookieChange::Stay { https, text } => add_stay_line(out, *https, text.as_str()),
+        CookieChange::Forget { https } => add_forget_line(out, *https),
     }
 }
 
 #[tactic(auto, unfolding(crate::specs::PageReply::session_line))]
-fn add_session_line(out: &mut Vec<u8>, text: &str) -> Result<(), AllocError>
-    ensures { OnOk result (out.new.items ≡ out.old.items ++ form.session_line text.now) }
+fn add_session_line(out: &mut Vec<u8>, https: bool, text: &str) -> Result<(), AllocError>
+    ensures { OnOk result (out.new.items ≡ out.old.items ++ form.session_line https text.now) }
 {
-    add_three(
-        out,
-        "Set-Cookie: desk=",
-        text,
-        "; Path=/; HttpOnly; SameSite=Lax\r\n",
-    )
+    add_cookie(out, https, text)?;
+    add_text(out, "; Path=/; HttpOnly; SameSite=Lax\r\n")
 }
 
 #[tactic(auto, unfolding(crate::specs::PageReply::stay_line))]
-fn add_stay_line(out: &mut Vec<u8>, text: &str) -> Result<(), AllocError>
-    ensures { OnOk result (out.new.items ≡ out.old.items ++ form.stay_line text.now) }
+fn add_stay_line(out: &mut Vec<u8>, https: bool, text: &str) -> Result<(), AllocError>
+    ensures { OnOk result (out.new.items ≡ out.old.items ++ form.stay_line https text.now) }
 {
-    add_three(
-        out,
-        "Set-Cookie: desk=",
-        text,
-        "; Path=/; Max-Age=2592000; HttpOnly; SameSite=Lax\r\n",
-    )
+    add_cookie(out, https, text)?;
+    add_text(out, "; Path=/; Max-Age=2592000; HttpOnly; SameSite=Lax\r\n")
 }
 
 #[tactic(auto, unfolding(crate::specs::PageReply::forget_line))]
-fn add_forget_line(out: &mut Vec<u8>) -> Result<(), AllocError>
-    ensures { OnOk result (out.new.items ≡ out.old.items ++ form.forget_line) }
+fn add_forget_line(out: &mut Vec<u8>, https: bool) -> Result<(), AllocError>
+    ensures { OnOk result (out.new.items ≡ out.old.items ++ form.forget_line https) }
 {
+    add_cookie(out, https, "")?;
     add_text(
         out,
-        "Set-Cookie: desk=; Path=/; Max-Age=0; HttpOnly; SameSite=Lax\r\n\
+        "; Path=/; Max-Age=0; HttpOnly; SameSite=Lax\r\n\
          Clear-Site-Data: \"cache\"\r\n",
     )
+}
+
+/// Puts what a line of the cookie begins with: its name and text, and whether it goes by HTTPS alone.
+#[tactic(auto, unfolding(crate::specs::PageReply::cookie_start))]
+fn add_cookie(out: &mut Vec<u8>, https: bool, text: &str) -> Result<(), AllocError>
+    ensures { OnOk result (out.new.items ≡ out.old.items ++ form.cookie_start https text.now) }
+{
+    add_text(out, "Set-Cookie: ")?;
+    add_three(out, cookie_name(https), "=", text)?;
+    add_text(out, secure(https))
+}
+
+#[tactic(auto, unfolding(crate::specs::PageReply::secure))]
+fn secure(https: bool) -> &'static str
+    ensures { result.now ≡ form.secure https }
+{
+    if https { "; Secure" } else { "" }
 }
 
 fn add_location_line(out: &mut Vec<u8>, location: &Option<Text>) -> Result<(), AllocError>

@@ -1,13 +1,18 @@
 -- Examples of the definitions: which paths are those of the pages and which take a post, where their
 -- targets lead, what the fields of a form give, and what a browser's message asks.
-use Rattle.std.specs.Prelude.{◌≡◌, refl, ℕ, true, false, List, [], ◌∷◌, codes, Some, None, Ok, Err}
+use Rattle.std.specs.Prelude.{◌≡◌, refl, ℕ, true, false, if◌then◌else◌, List, [], ◌∷◌, codes}
+use Rattle.std.specs.Prelude.{Some, None, Ok, Err}
 use Rattle.std.specs.Fmt.{digits}
+use Rattle.std.specs.Str.{bytes_eq, chars, is_utf8}
+use lib.Utf8.{encode}
 use Rattle.browser_core.specs.declared.form.Field.{Field}
 use Rattle.desk_forms.specs.declared.paths.Method.TheVariants.{Get}
 use Rattle.desk_forms.specs.declared.table.CommandForm.TheVariants as forms
 use Rattle.desk_model.specs.declared.command.Command.TheVariants as command
 use Rattle.find_core.specs.declared.search.Place as find
 use Rattle.find_form.specs.declared.shown.Start.TheVariants.{First, After, Before}
+use Rattle.settings_core.specs.declared.settings.Settings.{Settings}
+use Rattle.session_core.specs.Sessions as sessions
 use Rattle.session_core.specs.declared.session.Lasts.TheVariants.{Day, Month}
 use Rattle.page_routes.specs.Faults.{name_of, number_of, status_of}
 use Rattle.page_routes.specs.FormArguments.{filled, names_in, needed, others}
@@ -16,8 +21,9 @@ use Rattle.page_routes.specs.HeadBox.{box_page, leads, unmarked, words_query}
 use Rattle.page_routes.specs.Paths.{form_path, path_of, reply_path}
 use Rattle.page_routes.specs.Places.{act_named, fixed, is_page_path, method_named, path_in}
 use Rattle.page_routes.specs.Places.{queue_page, takes_post}
-use Rattle.page_routes.specs.Visits.{acted, asked_at, asked_by, form_of, page_or_home, sent_on}
-use Rattle.page_routes.specs.Visits.{is_search, lasts_of, next_from, sent_in, signed_by}
+use Rattle.page_routes.specs.Visits.{Lines, acted, asked_at, asked_by, caller_by, caller_of, form_of}
+use Rattle.page_routes.specs.Visits.{got, is_search, lasts_of, looker, next_from, next_in}
+use Rattle.page_routes.specs.Visits.{page_or_home, posted, posted_from, sent_in, sent_on, signed_at, signed_by}
 use Rattle.page_routes.specs.declared.fault.PageFault.TheVariants.{NoRoute, BadMethod, OtherSite}
 use Rattle.page_routes.specs.declared.fault.PageFault.TheVariants.{BadBody}
 use Rattle.page_routes.specs.declared.next.Next.TheVariants as nexts
@@ -201,18 +207,18 @@ place_that_is_no_page : page_or_home (Some places.SignOut) ≡ pages.Home
 place_that_is_no_page = refl
 
 unknown_token :
-    signed_by None None true (nexts.Page pages.Overdue) ≡ visits.NotSignedIn (nexts.Page pages.Overdue)
+    signed_by false None None true (nexts.Page pages.Overdue) ≡ visits.NotSignedIn (nexts.Page pages.Overdue)
 unknown_token = refl
 
 known_token :
-    signed_by (Some (codes "ann")) (Some (codes "ann.1.0a")) true (nexts.Page pages.Home)
-    ≡ visits.SignedIn (codes "ann.1.0a") true pages.Home
+    signed_by false (Some (codes "ann")) (Some (codes "ann.1.0a")) true (nexts.Page pages.Home)
+    ≡ visits.SignedIn false (codes "ann.1.0a") true pages.Home
 known_token = refl
 
 known_token_before_a_form :
-    signed_by (Some (codes "ann")) (Some (codes "ann.1.0a")) false
+    signed_by true (Some (codes "ann")) (Some (codes "ann.1.0a")) false
     (nexts.Form (sends.Comment 7 (codes "Hi")))
-    ≡ visits.Resumed (codes "ann") (codes "ann.1.0a") false (sends.Comment 7 (codes "Hi"))
+    ≡ visits.Resumed true (codes "ann") (codes "ann.1.0a") false (sends.Comment 7 (codes "Hi"))
 known_token_before_a_form = refl
 
 address_of_a_form_with_a_text :
@@ -341,3 +347,133 @@ nobody_with_a_press = refl
 
 bad_body_of_a_caller : asked_by (places.Act forms.Take 7) (Some (codes "ann")) None ≡ Err BadBody
 bad_body_of_a_caller = refl
+
+-- ---- who asks, and from where
+
+caller_of_a_cookie_that_is_open :
+    (settings : Settings)
+    → sessions.caller_of settings (codes "ann.1720.0a") 1719 ≡ Some (codes "ann")
+    → caller_by settings 1719 (Some (codes "ann.1720.0a")) ≡ Some (codes "ann")
+caller_of_a_cookie_that_is_open settings e = e
+
+-- a minute later
+caller_of_one_that_has_ended :
+    (settings : Settings) → sessions.caller_of settings (codes "ann.1720.0a") 1720 ≡ None
+    → caller_by settings 1720 (Some (codes "ann.1720.0a")) ≡ None
+caller_of_one_that_has_ended settings e = e
+
+nobody_without_a_cookie : (settings : Settings) → caller_by settings 1719 None ≡ None
+nobody_without_a_cookie settings = refl
+
+-- a message that a page of this site sends, and nobody's
+abbrev from : List ℕ → Lines
+from site name = if bytes_eq name (codes "Sec-Fetch-Site") then site ∷ [] else []
+
+-- it isn't asked whose it is
+post_from_another_site :
+    (settings : Settings)
+    → posted_from false settings 1000 (from (codes "cross-site")) [] (places.Act forms.Take 7) ≡ Err OtherSite
+post_from_another_site settings = refl
+
+signing_out_from_another_site :
+    (settings : Settings)
+    → posted_from false settings 1000 (from (codes "same-site")) [] places.SignOut ≡ Err OtherSite
+signing_out_from_another_site settings = refl
+
+post_from_a_page_of_its_own :
+    (settings : Settings)
+    → posted_from false settings 1000 (from (codes "same-origin")) [] (places.Act forms.Take 7)
+    ≡ Ok (visits.Unknown (nexts.Page (pages.Request 7)) false)
+post_from_a_page_of_its_own settings = refl
+
+-- whoever is signed in here
+search_that_another_site_opens :
+    (settings : Settings)
+    → looker false settings 1000 (from (codes "cross-site")) (pages.Find (codes "words=jam") First) ≡ None
+search_that_another_site_opens settings = refl
+
+request_that_another_site_opens :
+    (settings : Settings)
+    → looker false settings 1000 (from (codes "cross-site")) (pages.Request 7)
+    ≡ caller_of false settings 1000 (from (codes "cross-site"))
+request_that_another_site_opens settings = refl
+
+-- behind HTTPS the cookie of that name alone is read, and the cookies are told apart by their names
+abbrev cookies : List ℕ → Lines
+cookies line name = if bytes_eq name (codes "Cookie") then line ∷ [] else []
+
+plain_cookie_behind_https :
+    (settings : Settings)
+    → caller_of true settings 1719 (cookies (codes "desk=ann.1720.0a")) ≡ None
+unfolding chars encode is_utf8
+plain_cookie_behind_https settings = refl
+
+its_cookie_behind_https :
+    (settings : Settings)
+    → caller_of true settings 1719 (cookies (codes "desk=ben.1720.0b; __Host-desk=ann.1720.0a"))
+    ≡ sessions.caller_of settings (codes "ann.1720.0a") 1719
+unfolding chars encode is_utf8
+its_cookie_behind_https settings = refl
+
+its_cookie_without_https :
+    (settings : Settings)
+    → caller_of false settings 1719 (cookies (codes "__Host-desk=ann.1720.0a")) ≡ None
+unfolding chars encode is_utf8
+its_cookie_without_https settings = refl
+
+signing_out_behind_https :
+    (settings : Settings) → (lines : Lines)
+    → posted true settings 1000 lines [] places.SignOut ≡ Ok (visits.SignOut true)
+signing_out_behind_https settings lines = refl
+
+-- who follows a link there isn't signed out
+signing_out_takes_a_post :
+    (settings : Settings) → (lines : Lines)
+    → got false settings 1000 lines places.SignOut ≡ visits.Leads pages.Home
+signing_out_takes_a_post settings lines = refl
+
+taking_takes_a_post :
+    (settings : Settings) → (lines : Lines)
+    → got false settings 1000 lines (places.Act forms.Take 7) ≡ visits.Leads (pages.Request 7)
+taking_takes_a_post settings lines = refl
+
+-- ---- signing in
+
+search_to_come_next :
+    next_in (field (codes "next") (codes "/desk/find?words=jam") ∷ [])
+    ≡ nexts.Page (pages.Find (codes "words=jam") First)
+unfolding chars encode is_utf8
+search_to_come_next = refl
+
+other_site_to_come_next :
+    next_in (field (codes "next") (codes "//other/desk/overdue") ∷ []) ≡ nexts.Page pages.Home
+unfolding chars encode is_utf8
+other_site_to_come_next = refl
+
+nothing_to_come_next : next_in [] ≡ nexts.Page pages.Home
+nothing_to_come_next = refl
+
+signed_in_for_a_day :
+    (settings : Settings)
+    → sessions.signed_in settings (codes "its-token") 1000 Day ≡ Some (codes "ann.1720.0a")
+    → signed_at false settings 1000 (field (codes "token") (codes " its-token") ∷ [])
+    ≡ visits.SignedIn false (codes "ann.1720.0a") false pages.Home
+unfolding chars encode is_utf8
+signed_in_for_a_day settings e = rw e refl
+
+signed_in_for_a_month :
+    (settings : Settings)
+    → sessions.signed_in settings (codes "its-token") 1000 Month ≡ Some (codes "ann.44200.0b")
+    → signed_at false settings 1000
+    (field (codes "token") (codes "its-token") ∷ field (codes "keep") (codes "yes") ∷ [])
+    ≡ visits.SignedIn false (codes "ann.44200.0b") true pages.Home
+unfolding chars encode is_utf8
+signed_in_for_a_month settings e = rw e refl
+
+-- what was typed stands nowhere
+token_that_is_not_known :
+    (settings : Settings) → sessions.signed_in settings (codes "its-token") 1000 Day ≡ None
+    → signed_at false settings 1000 (field (codes "token") (codes "its-token") ∷ [])
+    ≡ visits.NotSignedIn (nexts.Page pages.Home)
+unfolding chars encode is_utf8
+token_that_is_not_known settings e = rw e refl

@@ -6,7 +6,7 @@ use Rattle.std.specs.Option.{option_and_then}
 use Rattle.desk_model.specs.declared.command.Command.{Command}
 use Rattle.browser_core.specs.Form.{has_fields, value_of}
 use Rattle.browser_core.specs.declared.form.Field.{Field}
-use Rattle.desk_forms.specs.Asked.{asked}
+use Rattle.desk_forms.specs.CommandFrom.{command_from}
 use Rattle.desk_forms.specs.Keys.{queue_or, request_in}
 use Rattle.desk_forms.specs.Number.{number_of}
 use Rattle.desk_forms.specs.Paths.{PathParameter}
@@ -71,4 +71,4 @@ sheet_of b fields = record {
 -- the command of a form, where the fields are just its own
 abbrev pub command_in : CommandForm → PathParameter → List Field → Option Command
 command_in form b fields =
-    if has_fields (needed form) (others form) fields then asked form (sheet_of b fields) else None
+    if has_fields (needed form) (others form) fields then command_from form (sheet_of b fields) else None

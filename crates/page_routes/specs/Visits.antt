@@ -9,7 +9,7 @@ use Rattle.session_core.specs.Sessions as sessions
 use Rattle.session_core.specs.declared.session.Lasts.{Lasts}
 use Rattle.session_core.specs.declared.session.Lasts.TheVariants.{Day, Month}
 use Rattle.message_core.specs.declared.message.Message.{Message}
-use Rattle.browser_core.specs.Cookie.{cookie_token}
+use Rattle.browser_core.specs.Cookie.{cookie_name, cookie_named}
 use Rattle.browser_core.specs.Form.{fields_of, has, has_fields, value_of}
 use Rattle.browser_core.specs.Site.{is_own_post}
 use Rattle.browser_core.specs.Texts.{text_in}
@@ -49,9 +49,10 @@ abbrev pub caller_by : Settings → ℕ → Option (List ℕ) → Option (List �
 caller_by settings at None = None
 caller_by settings at (Some cookie) = sessions.caller_of settings cookie at
 
--- the person for whom the cookie stands at a minute
-abbrev pub caller_of : Settings → ℕ → Lines → Option (List ℕ)
-caller_of settings at lines = caller_by settings at (cookie_token (lines (codes "Cookie")))
+-- the person for whom the cookie of this name stands at a minute
+abbrev pub caller_of : Bool → Settings → ℕ → Lines → Option (List ℕ)
+caller_of https settings at lines =
+    caller_by settings at (cookie_named (cookie_name https) (lines (codes "Cookie")))
 
 abbrev pub is_own : Lines → Bool
 is_own lines =
@@ -64,25 +65,25 @@ is_search (pages.Find query start) = true
 is_search page = false
 
 -- a search that another site opens is looked at by nobody
-abbrev pub searcher : Settings → ℕ → Lines → Option (List ℕ)
-searcher settings at lines = if is_own lines then caller_of settings at lines else None
+abbrev pub searcher : Bool → Settings → ℕ → Lines → Option (List ℕ)
+searcher https settings at lines = if is_own lines then caller_of https settings at lines else None
 
-abbrev pub looker : Settings → ℕ → Lines → Page → Option (List ℕ)
-looker settings at lines page =
-    if is_search page then searcher settings at lines else caller_of settings at lines
+abbrev pub looker : Bool → Settings → ℕ → Lines → Page → Option (List ℕ)
+looker https settings at lines page =
+    if is_search page then searcher https settings at lines else caller_of https settings at lines
 
 abbrev pub looked : Page → Option (List ℕ) → PageRequest
 looked page None = visits.Unknown (nexts.Page page) true
 looked page (Some caller) = visits.Look caller page
 
 -- the box in the head leads on, and a place that only takes POST to where its form stands
-abbrev pub got : Settings → ℕ → Lines → Place → PageRequest
-got settings at lines places.Style = visits.Style
-got settings at lines places.SignIn = visits.SignIn
-got settings at lines (places.Page page) = looked page (looker settings at lines page)
-got settings at lines (places.Go page) = visits.Leads page
-got settings at lines (places.Act act id) = visits.Leads (pages.Request id)
-got settings at lines _ = visits.Leads pages.Home
+abbrev pub got : Bool → Settings → ℕ → Lines → Place → PageRequest
+got https settings at lines places.Style = visits.Style
+got https settings at lines places.SignIn = visits.SignIn
+got https settings at lines (places.Page page) = looked page (looker https settings at lines page)
+got https settings at lines (places.Go page) = visits.Leads page
+got https settings at lines (places.Act act id) = visits.Leads (pages.Request id)
+got https settings at lines _ = visits.Leads pages.Home
 
 -- ---- commands
 
@@ -184,66 +185,78 @@ cookie_by settings at keep None = None
 cookie_by settings at keep (Some token) = sessions.signed_in settings token at (lasts_of keep)
 
 -- to a form one is led as the person of the cookie
-abbrev pub resumed : Option (List ℕ) → List ℕ → Bool → SubmittedForm → PageRequest
-resumed None cookie keep sent = visits.NotSignedIn (nexts.Form sent)
-resumed (Some caller) cookie keep sent = visits.Resumed caller cookie keep sent
+abbrev pub resumed : Bool → Option (List ℕ) → List ℕ → Bool → SubmittedForm → PageRequest
+resumed https None cookie keep sent = visits.NotSignedIn (nexts.Form sent)
+resumed https (Some caller) cookie keep sent = visits.Resumed https caller cookie keep sent
 
-abbrev pub signed_by : Option (List ℕ) → Option (List ℕ) → Bool → Next → PageRequest
-signed_by caller None keep next = visits.NotSignedIn next
-signed_by caller (Some cookie) keep (nexts.Page page) = visits.SignedIn cookie keep page
-signed_by caller (Some cookie) keep (nexts.Form sent) = resumed caller cookie keep sent
+abbrev pub signed_by : Bool → Option (List ℕ) → Option (List ℕ) → Bool → Next → PageRequest
+signed_by https caller None keep next = visits.NotSignedIn next
+signed_by https caller (Some cookie) keep (nexts.Page page) = visits.SignedIn https cookie keep page
+signed_by https caller (Some cookie) keep (nexts.Form sent) = resumed https caller cookie keep sent
 
-abbrev pub signed_with : Settings → ℕ → Bool → Option (List ℕ) → Next → PageRequest
-signed_with settings at keep cookie next =
-    signed_by (caller_by settings at cookie) cookie keep next
+abbrev pub signed_with : Bool → Settings → ℕ → Bool → Option (List ℕ) → Next → PageRequest
+signed_with https settings at keep cookie next =
+    signed_by https (caller_by settings at cookie) cookie keep next
 
-abbrev pub signed_at : Settings → ℕ → List Field → PageRequest
-signed_at settings at fields =
-    signed_with settings at (has fields (codes "keep"))
+abbrev pub signed_at : Bool → Settings → ℕ → List Field → PageRequest
+signed_at https settings at fields =
+    signed_with https settings at (has fields (codes "keep"))
     (cookie_by settings at (has fields (codes "keep")) (token_in fields)) (next_in fields)
 
 -- only at a moment of the desk
-abbrev pub signed : Settings → ℕ → List Field → PageRequest
-signed settings at fields =
-    if is_due_moment at then signed_at settings at fields else visits.NoMoment
+abbrev pub signed : Bool → Settings → ℕ → List Field → PageRequest
+signed https settings at fields =
+    if is_due_moment at then signed_at https settings at fields else visits.NoMoment
 
 -- what may come along of a form
 abbrev pub kept : List (List ℕ)
 kept =
     codes "keep" ∷ codes "subject" ∷ codes "requestors" ∷ codes "text" ∷ codes "status" ∷ []
 
-abbrev pub signing : Settings → ℕ → Option (List Field) → Answer
-signing settings at None = Err BadBody
-signing settings at (Some fields) =
+abbrev pub signing : Bool → Settings → ℕ → Option (List Field) → Answer
+signing https settings at None = Err BadBody
+signing https settings at (Some fields) =
     if has_fields (codes "token" ∷ codes "next" ∷ []) kept fields
-    then Ok (signed settings at fields) else Err BadBody
+    then Ok (signed https settings at fields) else Err BadBody
 
 -- ---- POST
 
-abbrev pub posted : Settings → ℕ → Lines → List ℕ → Place → Answer
-posted settings at lines body places.SignIn = signing settings at (fields_of body)
-posted settings at lines body places.SignOut = Ok visits.SignOut
-posted settings at lines body place = asked_by place (caller_of settings at lines) (fields_of body)
+abbrev pub posted : Bool → Settings → ℕ → Lines → List ℕ → Place → Answer
+posted https settings at lines body places.SignIn = signing https settings at (fields_of body)
+posted https settings at lines body places.SignOut = Ok (visits.SignOut https)
+posted https settings at lines body place =
+    asked_by place (caller_of https settings at lines) (fields_of body)
 
-abbrev pub posted_from : Settings → ℕ → Lines → List ℕ → Place → Answer
-posted_from settings at lines body place =
-    if is_own lines then posted settings at lines body place else Err OtherSite
+abbrev pub posted_from : Bool → Settings → ℕ → Lines → List ℕ → Place → Answer
+posted_from https settings at lines body place =
+    if is_own lines then posted https settings at lines body place else Err OtherSite
 
 -- ---- a message
 
 -- the method comes first, and then, of a post, whose it is
-abbrev pub visited : Settings → ℕ → Lines → List ℕ → Place → Option Method → Answer
-visited settings at lines body place None = Err (BadMethod (takes_post place))
-visited settings at lines body place (Some Get) = Ok (got settings at lines place)
-visited settings at lines body place (Some Post) =
-    if takes_post place then posted_from settings at lines body place else Err (BadMethod false)
+abbrev pub visited : Bool → Settings → ℕ → Lines → List ℕ → Place → Option Method → Answer
+visited https settings at lines body place None = Err (BadMethod (takes_post place))
+visited https settings at lines body place (Some Get) = Ok (got https settings at lines place)
+visited https settings at lines body place (Some Post) =
+    if takes_post place then posted_from https settings at lines body place else Err (BadMethod false)
 
-abbrev pub visited_at : Settings → ℕ → Message → Lines → Option Place → Answer
-visited_at settings at message lines None = Err NoRoute
-visited_at settings at message lines (Some place) =
-    visited settings at lines message.body place (method_named message.method)
+abbrev pub visited_at : Bool → Settings → ℕ → Message → Lines → Option Place → Answer
+visited_at https settings at message lines None = Err NoRoute
+visited_at https settings at message lines (Some place) =
+    visited https settings at lines message.body place (method_named message.method)
 
 -- what a message with these header lines asks of the pages at a minute, or its fault
-abbrev pub visit_of : Settings → ℕ → Message → Lines → Answer
-visit_of settings at message lines =
-    visited_at settings at message lines (place_at message.target)
+abbrev pub visit_of : Bool → Settings → ℕ → Message → Lines → Answer
+visit_of https settings at message lines =
+    visited_at https settings at message lines (place_at message.target)
+
+-- ---- a wrong token
+
+abbrev pub is_not_signed_in : Answer → Bool
+is_not_signed_in (Ok (visits.NotSignedIn next)) = true
+is_not_signed_in answer = false
+
+-- whether a message tries to sign in by a token that the settings don't know
+abbrev pub is_wrong_token : Bool → Settings → ℕ → Message → Lines → Bool
+is_wrong_token https settings at message lines =
+    is_not_signed_in (visit_of https settings at message lines)

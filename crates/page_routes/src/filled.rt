@@ -8,7 +8,7 @@ ghost use Rattle.desk_forms.specs.Paths.{bound_of};
 ghost use Rattle.page_routes.specs.FormArguments as filled;
 
 use browser_core::{Field, has_fields, value_of};
-use desk_forms::asked::{ArgumentSource, asked};
+use desk_forms::argument_source::{ArgumentSource, command_from};
 use desk_forms::number_of_word;
 use desk_forms::paths::PathParameter;
 use desk_forms::table::CommandForm;
@@ -151,5 +151,5 @@ pub(crate) fn command_in(
     if !has_fields(fields, needed(of), others(of)) {
         return Ok(None);
     }
-    asked(alloc, of, &FormArguments { bound, fields })
+    command_from(alloc, of, &FormArguments { bound, fields })
 }

@@ -23,5 +23,5 @@ pub use fault::PageFault;
 pub use lines::caller_of;
 pub use next::{Next, SubmittedForm, form_path};
 pub use page::{Page, page_path};
-pub use place::is_page_place;
-pub use visit::{PageRequest, visit_of};
+pub use place::{Place, is_page_place};
+pub use visit::{PageRequest, is_wrong_token, visit_of};

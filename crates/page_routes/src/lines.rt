@@ -7,25 +7,27 @@ ghost use Rattle.message_core.specs.Head.{StartsWith};
 ghost use Rattle.message_core.specs.Request.{values_in};
 ghost use Rattle.page_routes.specs.Visits as visits;
 
-use browser_core::{cookie_token, is_own_post};
+use browser_core::{cookie_name, cookie_named, is_own_post};
 use message_core::{Request, header_values};
 use settings_core::Settings;
 use std::alloc::{AllocError, Global};
 use text_core::Text;
 
 /// The person for whom the cookie stands at a minute since 1970-01-01 00:00 UTC, if it stands for
-/// one.
+/// one: the one that browsers send by HTTPS alone, or the plain one.
 pub fn caller_of(
     alloc: Global,
     settings: &Settings,
+    https: bool,
     at: u32,
     request: &Request,
 ) -> Result<Option<Text>, AllocError>
     ensures { (h : RequestHead) → StartsWith request.now.head h []
-        → IfOk result (λ caller. caller ≡ visits.caller_of settings.now at (values_in h)) }
+        → IfOk result (λ caller. caller ≡ visits.caller_of https settings.now at (values_in h)) }
 {
     let lines = header_values(alloc, request.head.as_slice(), "Cookie")?;
-    caller_by(alloc, settings, at, cookie_token(lines.as_slice()))
+    let cookie = cookie_named(cookie_name(https), lines.as_slice());
+    caller_by(alloc, settings, at, cookie)
 }
 
 /// The person for whom a cookie stands, if there is one and it does.

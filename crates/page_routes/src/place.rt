@@ -19,11 +19,14 @@ use find_form::{Start, place_in};
 use std::alloc::{AllocError, Global};
 use text_core::{Text, is_name};
 
-/// A place of the pages.
+/// A place of the pages: what the path of a message names.
 #[derive(Drop)]
-pub(crate) enum Place {
+pub enum Place {
+    /// The style sheet.
     Style,
+    /// Where one signs in.
     SignIn,
+    /// Where one signs out.
     SignOut,
     /// Where the box in the head of each page leads.
     Go(Page),

@@ -24,13 +24,14 @@ use text_core::Text;
 pub(crate) fn signing(
     alloc: Global,
     settings: &Settings,
+    https: bool,
     at: u32,
     body: &[u8],
 ) -> Result<PageRequest, PageFault>
     ensures ok { IfOk result (λ visit.
-        visits.signing settings.now at (form.fields_of body.now) ≡ Ok visit) }
+        visits.signing https settings.now at (form.fields_of body.now) ≡ Ok visit) }
     ensures err { IfErr result (λ fault. fault ≢ PageFault.NoMemory
-        → visits.signing settings.now at (form.fields_of body.now) ≡ Err fault) }
+        → visits.signing https settings.now at (form.fields_of body.now) ≡ Err fault) }
 {
     let Some(fields) = fields_of(alloc, body)? else {
         return Err(PageFault::BadBody);
@@ -39,20 +40,21 @@ pub(crate) fn signing(
     if !has_fields(fields.as_slice(), &["token", "next"], &kept) {
         return Err(PageFault::BadBody);
     }
-    Ok(signed(alloc, settings, at, fields.as_slice())?)
+    Ok(signed(alloc, settings, https, at, fields.as_slice())?)
 }
 
 /// Whether the fields hold a token of the settings, and where they lead.
 fn signed(
     alloc: Global,
     settings: &Settings,
+    https: bool,
     at: u32,
     fields: &[Field],
 ) -> Result<PageRequest, AllocError>
-    ensures { IfOk result (λ visit. visit ≡ visits.signed settings.now at fields.now) }
+    ensures { IfOk result (λ visit. visit ≡ visits.signed https settings.now at fields.now) }
 {
     match Minute::new(at) {
-        Some(moment) => signed_at(alloc, settings, moment, fields),
+        Some(moment) => signed_at(alloc, settings, https, moment, fields),
         None => Ok(PageRequest::NoMoment),
     }
 }
@@ -61,45 +63,59 @@ fn signed(
 fn signed_at(
     alloc: Global,
     settings: &Settings,
+    https: bool,
     moment: Minute,
     fields: &[Field],
 ) -> Result<PageRequest, AllocError>
-    ensures { IfOk result (λ visit. visit ≡ visits.signed_at settings.now moment fields.now) }
+    ensures { IfOk result (λ visit. visit ≡ visits.signed_at https settings.now moment fields.now) }
 {
     let keep = has(fields, "keep");
     let cookie = cookie_by(alloc, settings, moment, keep, token_in(fields))?;
     let next = next_in(alloc, fields)?;
-    signed_with(alloc, settings, moment.get(), keep, cookie, next)
+    signed_with(alloc, settings, https, moment.get(), keep, cookie, next)
 }
 
 /// The same by the cookie of what was typed, if there is one.
 fn signed_with(
     alloc: Global,
     settings: &Settings,
+    https: bool,
     at: u32,
     keep: bool,
     cookie: Option<Text>,
     next: Next,
 ) -> Result<PageRequest, AllocError>
     ensures { IfOk result (λ visit.
-        visit ≡ visits.signed_with settings.now at keep cookie next) }
+        visit ≡ visits.signed_with https settings.now at keep cookie next) }
 {
     match (cookie, next) {
-        (Some(cookie), Next::Page(next)) => Ok(PageRequest::SignedIn { cookie, keep, next }),
+        (Some(cookie), Next::Page(next)) => Ok(PageRequest::SignedIn {
+            https,
+            cookie,
+            keep,
+            next,
+        }),
         (Some(cookie), Next::Form(sent)) => {
             let caller = caller_by(alloc, settings, at, Some(cookie.as_str()))?;
-            Ok(resumed(caller, cookie, keep, sent))
+            Ok(resumed(https, caller, cookie, keep, sent))
         }
         (None, next) => Ok(PageRequest::NotSignedIn { next }),
     }
 }
 
 /// The form that is filled in once more by the person of a cookie.
-fn resumed(caller: Option<Text>, cookie: Text, keep: bool, sent: SubmittedForm) -> PageRequest
-    ensures { result ≡ visits.resumed caller cookie keep sent }
+fn resumed(
+    https: bool,
+    caller: Option<Text>,
+    cookie: Text,
+    keep: bool,
+    sent: SubmittedForm,
+) -> PageRequest
+    ensures { result ≡ visits.resumed https caller cookie keep sent }
 {
     match caller {
         Some(caller) => PageRequest::Resumed {
+            https,
             caller,
             cookie,
             keep,

@@ -30,12 +30,14 @@ pub enum PageRequest {
     /// POST of `/sign-in` with a token of the settings: 303 to the page, with the cookie of a session
     /// of 12 hours, or of 30 days where `keep` was ticked.
     SignedIn {
+        https: bool,
         cookie: Text,
         keep: bool,
         next: Page,
     },
     /// The same with what had been typed into a form: its page, with that cookie. Nothing is done.
     Resumed {
+        https: bool,
         caller: Text,
         cookie: Text,
         keep: bool,
@@ -48,7 +50,9 @@ pub enum PageRequest {
     /// POST of `/sign-in` at a minute that is no moment of the desk: the page that tells so.
     NoMoment,
     /// POST of `/sign-out`: 303 to `/sign-in`, and the cookie is cleared.
-    SignOut,
+    SignOut {
+        https: bool,
+    },
     /// GET of a place that only takes POST: 303 to where its form stands. Of `/desk/go`: 303 to what
     /// was typed into the box in the head.
     Leads(Page),
@@ -80,7 +84,7 @@ pub enum PageRequest {
 }
 
 /// What a message asks of the pages at a minute since 1970-01-01 00:00 UTC, as the lines of its
-/// head say.
+/// head say. Whether browsers come by HTTPS says which cookie is read and given.
 ///
 /// `NoRoute` where its path is no place, `BadMethod` where the place doesn't have its method,
 /// `OtherSite` where a post comes from another site, and `BadBody` where a body isn't what the form
@@ -89,18 +93,47 @@ pub enum PageRequest {
 pub fn visit_of(
     alloc: Global,
     settings: &Settings,
+    https: bool,
     at: u32,
     request: &Request,
 ) -> Result<PageRequest, PageFault>
     ensures ok { (h : RequestHead) → StartsWith request.now.head h [] → IfOk result (λ visit.
-        visits.visit_of settings.now at request.now.message (values_in h) ≡ Ok visit) }
+        visits.visit_of https settings.now at request.now.message (values_in h) ≡ Ok visit) }
     ensures err { (h : RequestHead) → StartsWith request.now.head h [] → IfErr result (λ fault.
         fault ≢ PageFault.NoMemory
-        → visits.visit_of settings.now at request.now.message (values_in h) ≡ Err fault) }
+        → visits.visit_of https settings.now at request.now.message (values_in h) ≡ Err fault) }
 {
     match place_at(alloc, request.message.target.as_slice())? {
-        Some(place) => visited(alloc, settings, at, request, place),
+        Some(place) => visited(alloc, settings, https, at, request, place),
         None => Err(PageFault::NoRoute),
+    }
+}
+
+/// Whether a message tries to sign in by a token that the settings don't know. `AllocError` may stand
+/// in place of any answer.
+pub fn is_wrong_token(
+    alloc: Global,
+    settings: &Settings,
+    https: bool,
+    at: u32,
+    request: &Request,
+) -> Result<bool, AllocError>
+    ensures { (h : RequestHead) → StartsWith request.now.head h [] → IfOk result (λ wrong.
+        wrong ≡ visits.is_wrong_token https settings.now at request.now.message (values_in h)) }
+{
+    match visit_of(alloc, settings, https, at, request) {
+        Ok(visit) => Ok(is_not_signed_in(&visit)),
+        Err(PageFault::NoMemory) => Err(AllocError),
+        Err(_) => Ok(false),
+    }
+}
+
+fn is_not_signed_in(visit: &PageRequest) -> bool
+    ensures { result ≡ visits.is_not_signed_in (Ok visit.now) }
+{
+    match visit {
+        PageRequest::NotSignedIn { .. } => true,
+        _ => false,
     }
 }
 
@@ -108,23 +141,24 @@ pub fn visit_of(
 fn visited(
     alloc: Global,
     settings: &Settings,
+    https: bool,
     at: u32,
     request: &Request,
     place: Place,
 ) -> Result<PageRequest, PageFault>
     ensures ok { (h : RequestHead) → StartsWith request.now.head h [] → IfOk result (λ visit.
-        visits.visited_at settings.now at request.now.message (values_in h) (Some place)
+        visits.visited_at https settings.now at request.now.message (values_in h) (Some place)
         ≡ Ok visit) }
     ensures err { (h : RequestHead) → StartsWith request.now.head h [] → IfErr result (λ fault.
-        fault ≢ PageFault.NoMemory → visits.visited_at settings.now at request.now.message
+        fault ≢ PageFault.NoMemory → visits.visited_at https settings.now at request.now.message
         (values_in h) (Some place) ≡ Err fault) }
 {
     let posts = takes_post(&place);
     match method_named(request.message.method.as_slice()) {
-        Some(Method::Get) => Ok(got(alloc, settings, at, request, place)?),
+        Some(Method::Get) => Ok(got(alloc, settings, https, at, request, place)?),
         Some(Method::Post) => {
             if posts {
-                posted_from(alloc, settings, at, request, place)
+                posted_from(alloc, settings, https, at, request, place)
             } else {
                 Err(PageFault::BadMethod { posts: false })
             }
@@ -137,18 +171,19 @@ fn visited(
 fn got(
     alloc: Global,
     settings: &Settings,
+    https: bool,
     at: u32,
     request: &Request,
     place: Place,
 ) -> Result<PageRequest, AllocError>
     ensures { (h : RequestHead) → StartsWith request.now.head h []
-        → IfOk result (λ visit. visit ≡ visits.got settings.now at (values_in h) place) }
+        → IfOk result (λ visit. visit ≡ visits.got https settings.now at (values_in h) place) }
 {
     match place {
         Place::Style => Ok(PageRequest::Style),
         Place::SignIn => Ok(PageRequest::SignIn),
         Place::Page(page) => {
-            let caller = looker(alloc, settings, at, request, &page)?;
+            let caller = looker(alloc, settings, https, at, request, &page)?;
             Ok(looked(page, caller))
         }
         Place::Go(page) => Ok(PageRequest::Leads(page)),
@@ -162,31 +197,33 @@ fn got(
 fn looker(
     alloc: Global,
     settings: &Settings,
+    https: bool,
     at: u32,
     request: &Request,
     page: &Page,
 ) -> Result<Option<Text>, AllocError>
     ensures { (h : RequestHead) → StartsWith request.now.head h [] → IfOk result (λ caller.
-        caller ≡ visits.looker settings.now at (values_in h) page.now) }
+        caller ≡ visits.looker https settings.now at (values_in h) page.now) }
 {
     if is_search(page) {
-        searcher(alloc, settings, at, request)
+        searcher(alloc, settings, https, at, request)
     } else {
-        caller_of(alloc, settings, at, request)
+        caller_of(alloc, settings, https, at, request)
     }
 }
 
 fn searcher(
     alloc: Global,
     settings: &Settings,
+    https: bool,
     at: u32,
     request: &Request,
 ) -> Result<Option<Text>, AllocError>
     ensures { (h : RequestHead) → StartsWith request.now.head h [] → IfOk result (λ caller.
-        caller ≡ visits.searcher settings.now at (values_in h)) }
+        caller ≡ visits.searcher https settings.now at (values_in h)) }
 {
     if is_own(alloc, request)? {
-        caller_of(alloc, settings, at, request)
+        caller_of(alloc, settings, https, at, request)
     } else {
         Ok(None)
     }
@@ -214,42 +251,44 @@ fn looked(page: Page, caller: Option<Text>) -> PageRequest
 fn posted_from(
     alloc: Global,
     settings: &Settings,
+    https: bool,
     at: u32,
     request: &Request,
     place: Place,
 ) -> Result<PageRequest, PageFault>
     ensures ok { (h : RequestHead) → StartsWith request.now.head h [] → IfOk result (λ visit.
-        visits.posted_from settings.now at (values_in h) request.now.message.body place
+        visits.posted_from https settings.now at (values_in h) request.now.message.body place
         ≡ Ok visit) }
     ensures err { (h : RequestHead) → StartsWith request.now.head h [] → IfErr result (λ fault.
-        fault ≢ PageFault.NoMemory → visits.posted_from settings.now at (values_in h)
+        fault ≢ PageFault.NoMemory → visits.posted_from https settings.now at (values_in h)
         request.now.message.body place ≡ Err fault) }
 {
     if !is_own(alloc, request)? {
         return Err(PageFault::OtherSite);
     }
-    posted(alloc, settings, at, request, place)
+    posted(alloc, settings, https, at, request, place)
 }
 
 /// What a post of the desk's own asks at a place that takes one.
 fn posted(
     alloc: Global,
     settings: &Settings,
+    https: bool,
     at: u32,
     request: &Request,
     place: Place,
 ) -> Result<PageRequest, PageFault>
     ensures ok { (h : RequestHead) → StartsWith request.now.head h [] → IfOk result (λ visit.
-        visits.posted settings.now at (values_in h) request.now.message.body place ≡ Ok visit) }
+        visits.posted https settings.now at (values_in h) request.now.message.body place ≡ Ok visit) }
     ensures err { (h : RequestHead) → StartsWith request.now.head h [] → IfErr result (λ fault.
-        fault ≢ PageFault.NoMemory → visits.posted settings.now at (values_in h)
+        fault ≢ PageFault.NoMemory → visits.posted https settings.now at (values_in h)
         request.now.message.body place ≡ Err fault) }
 {
     match place {
-        Place::SignIn => signing(alloc, settings, at, request.message.body.as_slice()),
-        Place::SignOut => Ok(PageRequest::SignOut),
+        Place::SignIn => signing(alloc, settings, https, at, request.message.body.as_slice()),
+        Place::SignOut => Ok(PageRequest::SignOut { https }),
         place => {
-            let caller = caller_of(alloc, settings, at, request)?;
+            let caller = caller_of(alloc, settings, https, at, request)?;
             asked_by(alloc, place, caller, request.message.body.as_slice())
         }
     }

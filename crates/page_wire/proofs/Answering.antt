@@ -51,36 +51,36 @@ no_memory bytes (inr (other, told)) = absurd (other refl)
 abbrev Reads : List ℕ → Result Request WireFault → Type 0
 Reads bytes read = read ≢ Err NoMemory → IsReadOf bytes read
 
-answered_so : (s : Settings) (sent : Message) (read : Result Request WireFault) (bytes : List ℕ)
-    (old new : State) → IsReadOf sent.1 read → MessageReadStepsOn s sent.0 read bytes old new
-    → IsAnsweredOn s sent bytes old new
+answered_so : (https : Bool) (s : Settings) (sent : Message) (read : Result Request WireFault) (bytes : List ℕ)
+    (old new : State) → IsReadOf sent.1 read → MessageReadStepsOn https s sent.0 read bytes old new
+    → IsAnsweredOn https s sent bytes old new
 unfolding IsAnswerTo
-answered_so s sent read bytes old new reads steps =
+answered_so https s sent read bytes old new reads steps =
     leads_wider s _ _ old new (λ desk after step. inr (read, reads, step)) steps
 
-left_so : (s : Settings) (sent : Message) (bytes : List ℕ) (old new : State)
-    → MessageReadStepsOn s sent.0 (Err NoMemory) bytes old new → IsAnsweredOn s sent bytes old new
+left_so : (https : Bool) (s : Settings) (sent : Message) (bytes : List ℕ) (old new : State)
+    → MessageReadStepsOn https s sent.0 (Err NoMemory) bytes old new → IsAnsweredOn https s sent bytes old new
 unfolding IsAnswerTo
-left_so s sent bytes old new steps =
+left_so https s sent bytes old new steps =
     leads_wider s _ _ old new (λ desk after step. inl (no_memory bytes step.0, step.1)) steps
 
 -- what was read and answered is the answer to the bytes
-pub answered : (s : Settings) (sent : Message) (read : Result Request WireFault) (bytes : List ℕ)
-    (old new : State) → Reads sent.1 read → MessageReadStepsOn s sent.0 read bytes old new
-    → IsAnsweredOn s sent bytes old new
-answered s sent (Ok request) bytes old new reads steps =
-    answered_so s sent (Ok request) bytes old new (reads (λ e. cc)) steps
-answered s sent (Err NoMemory) bytes old new reads steps = left_so s sent bytes old new steps
-answered s sent (Err Read) bytes old new reads steps =
-    answered_so s sent (Err Read) bytes old new (reads (λ e. cc)) steps
-answered s sent (Err TooLong) bytes old new reads steps =
-    answered_so s sent (Err TooLong) bytes old new (reads (λ e. cc)) steps
-answered s sent (Err Truncated) bytes old new reads steps =
-    answered_so s sent (Err Truncated) bytes old new (reads (λ e. cc)) steps
-answered s sent (Err BadHead) bytes old new reads steps =
-    answered_so s sent (Err BadHead) bytes old new (reads (λ e. cc)) steps
-answered s sent (Err BadLength) bytes old new reads steps =
-    answered_so s sent (Err BadLength) bytes old new (reads (λ e. cc)) steps
+pub answered : (https : Bool) (s : Settings) (sent : Message) (read : Result Request WireFault) (bytes : List ℕ)
+    (old new : State) → Reads sent.1 read → MessageReadStepsOn https s sent.0 read bytes old new
+    → IsAnsweredOn https s sent bytes old new
+answered https s sent (Ok request) bytes old new reads steps =
+    answered_so https s sent (Ok request) bytes old new (reads (λ e. cc)) steps
+answered https s sent (Err NoMemory) bytes old new reads steps = left_so https s sent bytes old new steps
+answered https s sent (Err Read) bytes old new reads steps =
+    answered_so https s sent (Err Read) bytes old new (reads (λ e. cc)) steps
+answered https s sent (Err TooLong) bytes old new reads steps =
+    answered_so https s sent (Err TooLong) bytes old new (reads (λ e. cc)) steps
+answered https s sent (Err Truncated) bytes old new reads steps =
+    answered_so https s sent (Err Truncated) bytes old new (reads (λ e. cc)) steps
+answered https s sent (Err BadHead) bytes old new reads steps =
+    answered_so https s sent (Err BadHead) bytes old new (reads (λ e. cc)) steps
+answered https s sent (Err BadLength) bytes old new reads steps =
+    answered_so https s sent (Err BadLength) bytes old new (reads (λ e. cc)) steps
 
 -- ---- reading
 
@@ -107,11 +107,11 @@ told_read bytes fault told reads is other =
 -- ---- answering
 
 -- no message: it is told why
-pub fault_told : {A E : Type 0} (s : Settings) (at : ℕ) (fault : WireFault) (r : Result (Vec ℕ A) E)
+pub fault_told : {A E : Type 0} (https : Bool) (s : Settings) (at : ℕ) (fault : WireFault) (r : Result (Vec ℕ A) E)
     (tables : State) → IfOk r (λ out. TellsFault fault out.items)
-    → IfOk r (λ out. MessageReadStepsOn s at (Err fault) out.items tables tables)
-fault_told s at fault (Ok out) tables told = leads_nowhere s _ tables (λ desk. (told, refl))
-fault_told s at fault (Err e) tables told = tt
+    → IfOk r (λ out. MessageReadStepsOn https s at (Err fault) out.items tables tables)
+fault_told https s at fault (Ok out) tables told = leads_nowhere s _ tables (λ desk. (told, refl))
+fault_told https s at fault (Err e) tables told = tt
 
 by_no : (b : Bool) (Yes No : Type 0) → b ≡ false → No → IfElse b Yes No
 by_no b Yes No is holds = subst (λ (c : Bool). IfElse c Yes No) (sym is) holds
@@ -120,40 +120,40 @@ by_yes : (b : Bool) (Yes No : Type 0) → b ≡ true → Yes → IfElse b Yes No
 by_yes b Yes No is holds = subst (λ (c : Bool). IfElse c Yes No) (sym is) holds
 
 -- whoever asks whether the desk is there is told
-pub health_told : {A E : Type 0} (s : Settings) (at : ℕ) (request : Request) (h : Bool)
+pub health_told : {A E : Type 0} (https : Bool) (s : Settings) (at : ℕ) (request : Request) (h : Bool)
     (r : Result (Vec ℕ A) E) (old new : State) → asks_health request.message ≡ true
     → h ≡ is_head request.message → LeavesTables old new → IfOk r (λ out. TellsHealth h out.items)
-    → IfOk r (λ out. MessageReadStepsOn s at (Ok request) out.items old new)
-health_told s at request h (Ok out) old new is head kept told =
+    → IfOk r (λ out. MessageReadStepsOn https s at (Ok request) out.items old new)
+health_told https s at request h (Ok out) old new is head kept told =
     let so = subst (λ (b : Bool). TellsHealth b out.items) head told in
-    leads_same s (λ desk after. MessageReadSteps s at (Ok request) desk out.items after) old new kept
+    leads_same s (λ desk after. MessageReadSteps https s at (Ok request) desk out.items after) old new kept
     (λ desk. by_yes (asks_health request.message) _ _ is (so, refl))
-health_told s at request h (Err e) old new is head kept told = tt
+health_told https s at request h (Err e) old new is head kept told = tt
 
 -- a place of the interface
-pub elsewhere : {A E : Type 0} (s : Settings) (at : ℕ) (request : Request)
+pub elsewhere : {A E : Type 0} (https : Bool) (s : Settings) (at : ℕ) (request : Request)
     (r : Result (Vec ℕ A) E) (old new : State) → asks_health request.message ≡ false
     → is_page_path (path_in request.message.target) ≡ false
     → IfOk r (λ out. ReadStepsOn s at (Ok request.message) out.items old new)
-    → IfOk r (λ out. MessageReadStepsOn s at (Ok request) out.items old new)
-elsewhere s at request (Ok out) old new health other steps =
+    → IfOk r (λ out. MessageReadStepsOn https s at (Ok request) out.items old new)
+elsewhere https s at request (Ok out) old new health other steps =
     leads_wider s _ _ old new
     (λ desk after step. by_no (asks_health request.message) _ _ health
     (by_no (is_page_path (path_in request.message.target)) _ _ other step))
     (read_leads s at (Ok request.message) out.items old new steps)
-elsewhere s at request (Err e) old new health other steps = tt
+elsewhere https s at request (Err e) old new health other steps = tt
 
 -- a place of the pages
-pub on_pages : {A E : Type 0} (s : Settings) (at : ℕ) (request : Request)
+pub on_pages : {A E : Type 0} (https : Bool) (s : Settings) (at : ℕ) (request : Request)
     (r : Result (Vec ℕ A) E) (old new : State) → asks_health request.message ≡ false
     → is_page_path (path_in request.message.target) ≡ true
-    → IfOk r (λ out. RequestStepsOn s at request out.items old new)
-    → IfOk r (λ out. MessageReadStepsOn s at (Ok request) out.items old new)
-on_pages s at request (Ok out) old new health is steps =
+    → IfOk r (λ out. RequestStepsOn https s at request out.items old new)
+    → IfOk r (λ out. MessageReadStepsOn https s at (Ok request) out.items old new)
+on_pages https s at request (Ok out) old new health is steps =
     leads_wider s _ _ old new
     (λ desk after step. by_no (asks_health request.message) _ _ health
     (by_yes (is_page_path (path_in request.message.target)) _ _ is step)) steps
-on_pages s at request (Err e) old new health is steps = tt
+on_pages https s at request (Err e) old new health is steps = tt
 
 -- a call that failed and left the desk as it was spares the tables
 pub spared_err : {S X E : Type 0} (g : Ghosts S) (old new : Service S g) (r : Result X E)
@@ -172,30 +172,30 @@ left_spared g old new same kept =
 
 -- ---- what a request asks for
 
-pub asked : (s : Settings) (at : ℕ) (request : Request) (bytes : List ℕ) (old new : State)
-    → RequestPageStepsOn s at request bytes old new → RequestStepsOn s at request bytes old new
-asked s at request bytes old new steps =
+pub asked : (https : Bool) (s : Settings) (at : ℕ) (request : Request) (bytes : List ℕ) (old new : State)
+    → RequestPageStepsOn https s at request bytes old new → RequestStepsOn https s at request bytes old new
+asked https s at request bytes old new steps =
     leads_wider s _ _ old new (λ desk after step. inr step) steps
 
-pub left_out : (s : Settings) (at : ℕ) (request : Request) (bytes : List ℕ) (old new : State)
+pub left_out : (https : Bool) (s : Settings) (at : ℕ) (request : Request) (bytes : List ℕ) (old new : State)
     → bytes ≡ bytes_of (unavailable (is_head request.message)) → StaysOn s old new
-    → RequestStepsOn s at request bytes old new
-left_out s at request bytes old new told stay =
+    → RequestStepsOn https s at request bytes old new
+left_out https s at request bytes old new told stay =
     leads_wider s _ _ old new (λ desk after same. inl (told, same)) stay
 
 -- a visit was made
-pub visited : {X E : Type 0} (s : Settings) (at : ℕ) (request : Request) (visit : PageRequest)
+pub visited : {X E : Type 0} (https : Bool) (s : Settings) (at : ℕ) (request : Request) (visit : PageRequest)
     (r : Result X E) (bytes : List ℕ) (old new : State)
     → ((h : RequestHead) → StartsWith request.head h []
-    → visit_of s at request.message (values_in h) ≡ Ok visit)
+    → visit_of https s at request.message (values_in h) ≡ Ok visit)
     → OnOk r (ToldStepsOn s at (is_head request.message) visit bytes old new)
-    → OnOk r (RequestPageStepsOn s at request bytes old new)
-visited s at request visit (Ok x) bytes old new is steps =
+    → OnOk r (RequestPageStepsOn https s at request bytes old new)
+visited https s at request visit (Ok x) bytes old new is steps =
     leads_wider s _ _ old new
     (λ desk after step head starts.
     subst (λ (asked : Result PageRequest PageFault). PageSteps s at (is_head request.message) asked desk bytes after)
     (sym (is head starts)) step) steps
-visited s at request visit (Err e) bytes old new is steps = tt
+visited https s at request visit (Err e) bytes old new is steps = tt
 
 -- its reply is told, or the head of it
 pub told_so : (s : Settings) (at : ℕ) (head_only : Bool) (visit : PageRequest) (whole bytes : List ℕ)
@@ -205,17 +205,17 @@ told_so s at head_only visit whole bytes old new steps told =
     leads_wider s _ _ old new (λ desk after step. (whole, step, told)) steps
 
 -- its fault was told
-pub faulted : {X E : Type 0} (s : Settings) (at : ℕ) (request : Request) (fault : PageFault)
+pub faulted : {X E : Type 0} (https : Bool) (s : Settings) (at : ℕ) (request : Request) (fault : PageFault)
     (r : Result X E) (bytes : List ℕ) (tables : State)
     → ((h : RequestHead) → StartsWith request.head h []
-    → visit_of s at request.message (values_in h) ≡ Err fault)
+    → visit_of https s at request.message (values_in h) ≡ Err fault)
     → OnOk r (bytes ≡ fault_reply (is_head request.message) fault)
-    → OnOk r (RequestPageStepsOn s at request bytes tables tables)
-faulted s at request fault (Ok x) bytes tables is told =
+    → OnOk r (RequestPageStepsOn https s at request bytes tables tables)
+faulted https s at request fault (Ok x) bytes tables is told =
     leads_nowhere s _ tables
     (λ desk head starts. subst (λ (asked : Result PageRequest PageFault). PageSteps s at
     (is_head request.message) asked desk bytes desk) (sym (is head starts)) (told, refl))
-faulted s at request fault (Err e) bytes tables is told = tt
+faulted https s at request fault (Err e) bytes tables is told = tt
 
 -- ---- a visit
 

@@ -1,3 +1,5 @@
+mod Examples
 pub mod Answering
 pub mod HeadOnly
+pub mod PageLaws
 pub mod Steps

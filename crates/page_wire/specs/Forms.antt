@@ -1,5 +1,6 @@
 -- The step of a form: its command, and the second one where there is one.
-use Rattle.std.specs.Prelude.{◌≡◌, ◌⊎◌, ℕ, List, Option, Some, None, Ok, Err}
+use Rattle.std.specs.Prelude.{◌≡◌, ◌⊎◌, ℕ, Bool, true, false, List, Option, Some, None}
+use Rattle.std.specs.Prelude.{Result, Ok, Err}
 use Rattle.std.specs.Option.{option_and_then}
 use Rattle.sqlite.specs.State.{State}
 use Rattle.settings_core.specs.declared.settings.Settings.{Settings}
@@ -7,12 +8,16 @@ use Rattle.desk_model.specs.Desk.{Desk}
 use Rattle.desk_model.specs.Step.{Outcome, refusal_beforehand}
 use Rattle.desk_model.specs.declared.answer.Answer.{Answer}
 use Rattle.desk_model.specs.declared.answer.Answer.TheVariants as answer
+use Rattle.desk_model.specs.declared.answer.Dossier.{Dossier}
 use Rattle.desk_model.specs.declared.command.Command.{Command}
 use Rattle.desk_model.specs.declared.refusal.Refusal.{Refusal}
 use Rattle.page_routes.specs.declared.next.SubmittedForm.{SubmittedForm}
+use Rattle.service_core.specs.Dossiers.{IsDossier}
 use Rattle.service_core.specs.TableSteps.{IsStep, OverTables, ask_by}
 use Rattle.page_wire.specs.Next.{follow_up_command}
+use Rattle.page_wire.specs.Redirect.{led_by}
 use Rattle.page_wire.specs.Replies.{done_reply, half_reply, refused_reply}
+use Rattle.page_wire.specs.Twice.{told_request, was_sent}
 
 -- The second command was refused: the reply says what was done and what wasn't. Out of memory it
 -- leads on as after the first, since something was done.
@@ -55,11 +60,27 @@ StepsUnrefused settings at caller command sent old bytes new =
     (outcome : Outcome) × (mid : Desk) × IsStep settings (ask_by at caller command) old outcome mid
     × AfterFirst settings at caller sent outcome mid bytes new
 
+-- what was sent already leads where it led then, and nothing is done
+abbrev pub UnlessSent : Settings → ℕ → List ℕ → Command → SubmittedForm → Bool → Desk → List ℕ → Desk
+    → Type 0
+UnlessSent settings at caller command sent true old bytes new = (bytes ≡ led_by sent) × (new ≡ old)
+UnlessSent settings at caller command sent false old bytes new =
+    StepsUnrefused settings at caller command sent old bytes new
+
+-- of a text that is sent to a request, its dossier tells whether it was
+abbrev pub StepsOnce : Settings → ℕ → List ℕ → Command → SubmittedForm → Option ℕ → Desk → List ℕ → Desk
+    → Type 0
+StepsOnce settings at caller command sent None old bytes new =
+    StepsUnrefused settings at caller command sent old bytes new
+StepsOnce settings at caller command sent (Some id) old bytes new =
+    (result : Result Dossier Refusal) × IsDossier settings at caller id old result
+    × UnlessSent settings at caller command sent (was_sent caller at sent result) old bytes new
+
 -- where the second is refused beforehand nothing is done
 abbrev pub StepsUnless : Settings → ℕ → List ℕ → Command → SubmittedForm → Option Refusal → Desk
     → List ℕ → Desk → Type 0
 StepsUnless settings at caller command sent None old bytes new =
-    StepsUnrefused settings at caller command sent old bytes new
+    StepsOnce settings at caller command sent (told_request sent) old bytes new
 StepsUnless settings at caller command sent (Some refusal) old bytes new =
     (bytes ≡ refused_reply caller at sent refusal) × (new ≡ old)
 
@@ -76,6 +97,12 @@ abbrev pub StepsUnrefusedOn : Settings → ℕ → List ℕ → Command → Subm
 StepsUnrefusedOn settings at caller command sent bytes =
     OverTables settings
     (λ desk after. StepsUnrefused settings at caller command sent desk bytes after)
+
+abbrev pub StepsOnceOn : Settings → ℕ → List ℕ → Command → SubmittedForm → Option ℕ → List ℕ → State
+    → State → Type 0
+StepsOnceOn settings at caller command sent id bytes =
+    OverTables settings
+    (λ desk after. StepsOnce settings at caller command sent id desk bytes after)
 
 abbrev pub SecondStepsOn : Settings → ℕ → List ℕ → SubmittedForm → Answer → Option Command → List ℕ → State
     → State → Type 0

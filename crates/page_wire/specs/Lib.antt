@@ -2,8 +2,10 @@ pub mod Faults
 pub mod Forms
 pub mod HeadOnly
 pub mod Health
-pub mod Redirect
+pub mod Laws
 pub mod Next
+pub mod Redirect
 pub mod Replies
 pub mod Steps
+pub mod Twice
 pub mod Visits

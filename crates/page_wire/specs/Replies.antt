@@ -102,9 +102,9 @@ sign_in status (nexts.Page page) unknown elsewhere =
 sign_in status (nexts.Form sent) unknown elsewhere =
     with_page status (page_bytes (sign_in_form sent unknown))
 
-abbrev pub cookie_for : Bool → List ℕ → CookieChange
-cookie_for true cookie = Stay cookie
-cookie_for false cookie = Session cookie
+abbrev pub cookie_for : Bool → Bool → List ℕ → CookieChange
+cookie_for https true cookie = Stay https cookie
+cookie_for https false cookie = Session https cookie
 
 -- ---- pages
 
@@ -208,9 +208,9 @@ other_person_reply caller at person sent =
     with_page 409 (page_bytes (unsent_form caller at sent (OtherPerson person)))
 
 -- the caller is signed in now
-abbrev pub resumed_reply : List ℕ → ℕ → List ℕ → Bool → SubmittedForm → List ℕ
-resumed_reply caller at cookie keep sent =
-    with_cookie (cookie_for keep cookie) 200 (page_bytes (unsent_form caller at sent SignedIn))
+abbrev pub resumed_reply : Bool → List ℕ → ℕ → List ℕ → Bool → SubmittedForm → List ℕ
+resumed_reply https caller at cookie keep sent =
+    with_cookie (cookie_for https keep cookie) 200 (page_bytes (unsent_form caller at sent SignedIn))
 
 -- its first command done and its second refused: what was done and what wasn't, with a text that
 -- wasn't sent; no other form has a second command

@@ -154,8 +154,8 @@ Stays visit old bytes new = IsFixed visit bytes × (new ≡ old)
 -- what a visit asks of the desk
 abbrev pub PageRequestSteps : Settings → ℕ → PageRequest → Desk → List ℕ → Desk → Type 0
 PageRequestSteps settings at (visit.Look caller page) = LookSteps settings at caller page
-PageRequestSteps settings at (visit.Resumed caller cookie keep sent) =
-    Tells (replies.resumed_reply caller at cookie keep sent)
+PageRequestSteps settings at (visit.Resumed https caller cookie keep sent) =
+    Tells (replies.resumed_reply https caller at cookie keep sent)
 PageRequestSteps settings at (visit.OtherPerson caller person sent) =
     Tells (replies.other_person_reply caller at person sent)
 PageRequestSteps settings at (visit.Act caller command sent) = FormSteps settings at caller command sent
@@ -176,26 +176,26 @@ abbrev pub PageSteps : Settings → ℕ → Bool → Result PageRequest PageFaul
 PageSteps settings at head_only (Ok visit) = ToldSteps settings at head_only visit
 PageSteps settings at head_only (Err fault) = Tells (fault_reply head_only fault)
 
--- what a message with this head asks of the pages is done
-abbrev pub RequestPageSteps : Settings → ℕ → Request → Desk → List ℕ → Desk → Type 0
-RequestPageSteps settings at request old bytes new =
+-- what a message with this head asks of the pages is done; behind HTTPS by the cookie for that alone
+abbrev pub RequestPageSteps : Bool → Settings → ℕ → Request → Desk → List ℕ → Desk → Type 0
+RequestPageSteps https settings at request old bytes new =
     (head : RequestHead) → StartsWith request.head head []
     → PageSteps settings at (is_head request.message)
-    (visit_of settings at request.message (values_in head)) old bytes new
+    (visit_of https settings at request.message (values_in head)) old bytes new
 
 -- out of memory nothing is done and the reply says so; or what the message asks for is done
-abbrev pub RequestSteps : Settings → ℕ → Request → Desk → List ℕ → Desk → Type 0
-RequestSteps settings at request old bytes new =
+abbrev pub RequestSteps : Bool → Settings → ℕ → Request → Desk → List ℕ → Desk → Type 0
+RequestSteps https settings at request old bytes new =
     LeavesOut (is_head request.message) old bytes new
-    ⊎ RequestPageSteps settings at request old bytes new
+    ⊎ RequestPageSteps https settings at request old bytes new
 
 -- The step of what was read: a fault is told; whoever asks whether the desk is there is told; and else
 -- a message is answered at a place of the pages by its visit, and by the interface at any other.
-abbrev pub MessageReadSteps : Settings → ℕ → Result Request WireFault → Desk → List ℕ → Desk → Type 0
-MessageReadSteps settings at (Err fault) old bytes new = TellsFault fault bytes × (new ≡ old)
-MessageReadSteps settings at (Ok request) old bytes new =
+abbrev pub MessageReadSteps : Bool → Settings → ℕ → Result Request WireFault → Desk → List ℕ → Desk → Type 0
+MessageReadSteps https settings at (Err fault) old bytes new = TellsFault fault bytes × (new ≡ old)
+MessageReadSteps https settings at (Ok request) old bytes new =
     IfElse (asks_health request.message) (TellsHealth (is_head request.message) bytes × (new ≡ old))
-    (IfElse (is_page_path (path_in request.message.target)) (RequestSteps settings at request old bytes new)
+    (IfElse (is_page_path (path_in request.message.target)) (RequestSteps https settings at request old bytes new)
     (MessageSteps settings at request.message old bytes new))
 
 -- it is read so of these bytes, with a body as long as its place takes
@@ -203,11 +203,11 @@ abbrev pub IsReadOf : List ℕ → Result Request WireFault → Type 0
 IsReadOf bytes read = (left : Option (List ℕ)) × ReadsRequested ByPlace (Some bytes) left read
 
 -- The step of a message to a server with pages: it is left out where there was no memory to read it.
-unfoldable pub IsAnswerTo : Settings → Sent → Desk → List ℕ → Desk → Type 0
-IsAnswerTo settings sent old bytes new =
+unfoldable pub IsAnswerTo : Bool → Settings → Sent → Desk → List ℕ → Desk → Type 0
+IsAnswerTo https settings sent old bytes new =
     LeavesOut false old bytes new
     ⊎ ((read : Result Request WireFault) × IsReadOf sent.1 read
-    × MessageReadSteps settings sent.0 read old bytes new)
+    × MessageReadSteps https settings sent.0 read old bytes new)
 
 -- ---- over tables
 
@@ -242,13 +242,13 @@ pub record SearchRead {S : Type 0} (g : Ghosts S) (old new : service.Desk S g) (
   pub kept : LeavesTables (tables_of g old) (tables_of g new)
   pub same : settings_of g new ≡ settings_of g old
 
-abbrev pub RequestPageStepsOn : Settings → ℕ → Request → List ℕ → State → State → Type 0
-RequestPageStepsOn settings at request bytes =
-    OverTables settings (λ desk after. RequestPageSteps settings at request desk bytes after)
+abbrev pub RequestPageStepsOn : Bool → Settings → ℕ → Request → List ℕ → State → State → Type 0
+RequestPageStepsOn https settings at request bytes =
+    OverTables settings (λ desk after. RequestPageSteps https settings at request desk bytes after)
 
-abbrev pub RequestStepsOn : Settings → ℕ → Request → List ℕ → State → State → Type 0
-RequestStepsOn settings at request bytes =
-    OverTables settings (λ desk after. RequestSteps settings at request desk bytes after)
+abbrev pub RequestStepsOn : Bool → Settings → ℕ → Request → List ℕ → State → State → Type 0
+RequestStepsOn https settings at request bytes =
+    OverTables settings (λ desk after. RequestSteps https settings at request desk bytes after)
 
 abbrev pub TimedPageStepsOn : Settings → ℕ → PageRequest → List ℕ → State → State → Type 0
 TimedPageStepsOn settings at visit bytes =
@@ -258,10 +258,10 @@ abbrev pub ToldStepsOn : Settings → ℕ → Bool → PageRequest → List ℕ 
 ToldStepsOn settings at head_only visit bytes =
     OverTables settings (λ desk after. ToldSteps settings at head_only visit desk bytes after)
 
-abbrev pub MessageReadStepsOn : Settings → ℕ → Result Request WireFault → List ℕ → State → State → Type 0
-MessageReadStepsOn settings at read bytes =
-    OverTables settings (λ desk after. MessageReadSteps settings at read desk bytes after)
+abbrev pub MessageReadStepsOn : Bool → Settings → ℕ → Result Request WireFault → List ℕ → State → State → Type 0
+MessageReadStepsOn https settings at read bytes =
+    OverTables settings (λ desk after. MessageReadSteps https settings at read desk bytes after)
 
-abbrev pub IsAnsweredOn : Settings → Sent → List ℕ → State → State → Type 0
-IsAnsweredOn settings sent bytes =
-    OverTables settings (λ desk after. IsAnswerTo settings sent desk bytes after)
+abbrev pub IsAnsweredOn : Bool → Settings → Sent → List ℕ → State → State → Type 0
+IsAnsweredOn https settings sent bytes =
+    OverTables settings (λ desk after. IsAnswerTo https settings sent desk bytes after)

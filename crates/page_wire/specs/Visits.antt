@@ -13,11 +13,11 @@ use Rattle.page_routes.specs.declared.visit.PageRequest.TheVariants as visit
 use Rattle.page_wire.specs.Faults.{clock_reply}
 use Rattle.page_wire.specs.Replies.{cookie_for, leads_to, sign_in}
 
-abbrev pub signed_in : List ℕ → Bool → Page → List ℕ
-signed_in cookie keep next = leads_to (cookie_for keep cookie) (path_of next)
+abbrev pub signed_in : Bool → List ℕ → Bool → Page → List ℕ
+signed_in https cookie keep next = leads_to (cookie_for https keep cookie) (path_of next)
 
-abbrev pub signed_out : List ℕ
-signed_out = leads_to Forget (codes "/sign-in")
+abbrev pub signed_out : Bool → List ℕ
+signed_out https = leads_to (Forget https) (codes "/sign-in")
 
 abbrev pub leads_on : Page → List ℕ
 leads_on next = leads_to Keep (path_of next)
@@ -31,13 +31,13 @@ IsSheet bytes =
 abbrev pub IsFixed : PageRequest → List ℕ → Type 0
 IsFixed visit.Style bytes = IsSheet bytes
 IsFixed visit.SignIn bytes = bytes ≡ sign_in 200 (nexts.Page Home) false false
-IsFixed (visit.SignedIn cookie keep next) bytes = bytes ≡ signed_in cookie keep next
+IsFixed (visit.SignedIn https cookie keep next) bytes = bytes ≡ signed_in https cookie keep next
 IsFixed (visit.NotSignedIn next) bytes = bytes ≡ sign_in 403 next true false
 IsFixed visit.NoMoment bytes = bytes ≡ clock_reply
-IsFixed visit.SignOut bytes = bytes ≡ signed_out
+IsFixed (visit.SignOut https) bytes = bytes ≡ signed_out https
 IsFixed (visit.Leads next) bytes = bytes ≡ leads_on next
 IsFixed (visit.Unknown next to_get) bytes = bytes ≡ sign_in 403 next false to_get
 IsFixed (visit.Look caller page) bytes = bytes ≡ clock_reply
-IsFixed (visit.Resumed caller cookie keep sent) bytes = bytes ≡ clock_reply
+IsFixed (visit.Resumed https caller cookie keep sent) bytes = bytes ≡ clock_reply
 IsFixed (visit.OtherPerson caller person sent) bytes = bytes ≡ clock_reply
 IsFixed (visit.Act caller command sent) bytes = bytes ≡ clock_reply

@@ -12,6 +12,7 @@ mod faults;
 mod follow_up;
 mod head_only;
 mod health;
+pub mod laws;
 mod next;
 mod pages;
 mod redirect;
@@ -20,6 +21,7 @@ mod replies;
 mod serve;
 mod sign_in;
 mod submit;
+mod twice;
 mod unsent;
 mod visits;
 

@@ -25,7 +25,8 @@ pub(crate) fn put_done(sent: &SubmittedForm, answer: &Answer, room: &mut Vec<u8>
     }
 }
 
-fn put_redirect_by(sent: &SubmittedForm, room: &mut Vec<u8>)
+/// Puts the reply that leads where a form leads.
+pub(crate) fn put_redirect_by(sent: &SubmittedForm, room: &mut Vec<u8>)
     requires empty { room.old.items ≡ [] }
     requires room { 512 ≤ vec_capacity room.old }
     ensures { room.new.items ≡ form.led_by sent.now }

@@ -73,12 +73,12 @@ pub(crate) fn refused(
 }
 
 /// The cookie of one who signs in: for 30 days, or until the browser ends.
-pub(crate) fn cookie_for(keep: bool, cookie: Text) -> CookieChange
-    ensures { result ≡ form.cookie_for keep cookie }
+pub(crate) fn cookie_for(https: bool, keep: bool, text: Text) -> CookieChange
+    ensures { result ≡ form.cookie_for https keep text }
 {
     if keep {
-        CookieChange::Stay(cookie)
+        CookieChange::Stay { https, text }
     } else {
-        CookieChange::Session(cookie)
+        CookieChange::Session { https, text }
     }
 }

@@ -59,23 +59,25 @@ fn read(alloc: Global, bytes: &[u8]) -> Result<Request, WireFault>
 
 /// Answers what was read, at a moment in minutes since 1970-01-01 00:00 UTC: a fault is told, whoever
 /// asks whether the desk is there is told, and else a message is answered at a place of the pages by
-/// its visit, and by the interface at any other. The bytes of its reply, or `AllocError` where there
+/// its visit, and by the interface at any other. Where browsers come by HTTPS the pages have a cookie
+/// for that alone. The bytes of its reply, or `AllocError` where there
 /// was no memory for it and nothing was done.
 #[tactic(auto, using(service_core::proofs::LeftLemmas::left_same, store_tables::proofs::Spared::unread))]
 pub fn answer_sent<S: Backend>(
     alloc: Global,
     routes: Option<&Routes>,
+    https: bool,
     read: &Result<Request, WireFault>,
     moment: u32,
     desk: &mut Desk<S>,
 ) -> Result<Vec<u8>, AllocError>
-    ensures reply { IfOk result (λ out. MessageReadStepsOn (settings_of S.Store desk.old) moment read.now
+    ensures reply { IfOk result (λ out. MessageReadStepsOn https (settings_of S.Store desk.old) moment read.now
         out.items (tables_of S.Store desk.old) (tables_of S.Store desk.new)) }
     ensures err { OnErr result (LeavesTables (tables_of S.Store desk.old) (tables_of S.Store desk.new)) }
     ensures left { LeavesDesk S.Store desk.old desk.new }
 {
     match read {
-        Ok(request) => answer_read(alloc, routes, request, moment, desk),
+        Ok(request) => answer_read(alloc, routes, https, request, moment, desk),
         Err(fault) => answer_fault(alloc, *fault),
     }
 }
@@ -85,11 +87,12 @@ pub fn answer_sent<S: Backend>(
 fn answer_read<S: Backend>(
     alloc: Global,
     routes: Option<&Routes>,
+    https: bool,
     request: &Request,
     moment: u32,
     desk: &mut Desk<S>,
 ) -> Result<Vec<u8>, AllocError>
-    ensures reply { IfOk result (λ out. MessageReadStepsOn (settings_of S.Store desk.old) moment
+    ensures reply { IfOk result (λ out. MessageReadStepsOn https (settings_of S.Store desk.old) moment
         (Ok request.now) out.items (tables_of S.Store desk.old) (tables_of S.Store desk.new)) }
     ensures err { OnErr result (LeavesTables (tables_of S.Store desk.old) (tables_of S.Store desk.new)) }
     ensures left { LeavesDesk S.Store desk.old desk.new }
@@ -97,7 +100,7 @@ fn answer_read<S: Backend>(
     if asks_health(&request.message) {
         answer_health(alloc, is_head(&request.message), desk)
     } else if is_page_place(request.message.target.as_slice()) {
-        answer_in_room(alloc, request, moment, desk)
+        answer_in_room(alloc, https, request, moment, desk)
     } else {
         answer_request(alloc, routes, &request.message, moment, desk)
     }
@@ -107,18 +110,19 @@ fn answer_read<S: Backend>(
 #[tactic(auto, using(service_core::proofs::LeftLemmas::left_same))]
 fn answer_in_room<S: Backend>(
     alloc: Global,
+    https: bool,
     request: &Request,
     moment: u32,
     desk: &mut Desk<S>,
 ) -> Result<Vec<u8>, AllocError>
-    ensures reply { IfOk result (λ out. RequestStepsOn (settings_of S.Store desk.old) moment
+    ensures reply { IfOk result (λ out. RequestStepsOn https (settings_of S.Store desk.old) moment
         request.now out.items (tables_of S.Store desk.old) (tables_of S.Store desk.new)) }
     ensures err { OnErr result (desk.new ≡ desk.old) }
     ensures left { LeavesDesk S.Store desk.old desk.new }
 {
     match Vec::with_capacity(alloc, ROOM) {
         Ok(mut room) => {
-            answer_page(alloc, request, moment, desk, &mut room);
+            answer_page(alloc, https, request, moment, desk, &mut room);
             Ok(room)
         }
         Err(_) => Err(AllocError),
@@ -129,6 +133,7 @@ fn answer_in_room<S: Backend>(
 /// that is out of memory, nothing is done and the reply says so.
 fn answer_page<S: Backend>(
     alloc: Global,
+    https: bool,
     request: &Request,
     at: u32,
     desk: &mut Desk<S>,
@@ -136,11 +141,11 @@ fn answer_page<S: Backend>(
 )
     requires empty { room.old.items ≡ [] }
     requires room { 512 ≤ vec_capacity room.old }
-    ensures step { RequestStepsOn (settings_of S.Store desk.old) at request.now room.new.items
+    ensures step { RequestStepsOn https (settings_of S.Store desk.old) at request.now room.new.items
         (tables_of S.Store desk.old) (tables_of S.Store desk.new) }
     ensures left { LeavesDesk S.Store desk.old desk.new }
 {
-    match reply_to(alloc, request, at, desk, room) {
+    match reply_to(alloc, https, request, at, desk, room) {
         Ok(()) => (),
         Err(_) => put_unavailable(is_head(&request.message), room),
     }
@@ -160,6 +165,7 @@ fn put_unavailable(head_only: bool, room: &mut Vec<u8>)
 #[tactic(auto, using(service_core::proofs::LeftLemmas::left_same))]
 fn reply_to<S: Backend>(
     alloc: Global,
+    https: bool,
     request: &Request,
     at: u32,
     desk: &mut Desk<S>,
@@ -167,13 +173,13 @@ fn reply_to<S: Backend>(
 ) -> Result<(), AllocError>
     requires empty { room.old.items ≡ [] }
     requires room { 512 ≤ vec_capacity room.old }
-    ensures ok { OnOk result (RequestPageStepsOn (settings_of S.Store desk.old) at request.now
+    ensures ok { OnOk result (RequestPageStepsOn https (settings_of S.Store desk.old) at request.now
         room.new.items (tables_of S.Store desk.old) (tables_of S.Store desk.new)) }
     ensures err { OnErr result ((room.new ≡ room.old) × StaysOn (settings_of S.Store desk.old)
         (tables_of S.Store desk.old) (tables_of S.Store desk.new)) }
     ensures left { LeavesDesk S.Store desk.old desk.new }
 {
-    match visit_of(alloc, desk.settings(), at, request) {
+    match visit_of(alloc, desk.settings(), https, at, request) {
         Ok(visit) => {
             let made = tell_visit(alloc, is_head(&request.message), &visit, at, desk, room);
             drop(visit);

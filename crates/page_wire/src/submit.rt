@@ -1,17 +1,21 @@
 //! What a form asks of the desk, and its reply.
-ghost use Rattle.std.specs.Prelude.{◌≡◌, ◌≤◌, [], IfOk, OnErr, OnOk};
+ghost use Rattle.std.specs.Prelude.{◌≡◌, ◌≤◌, [], IfOk, OnErr, OnOk, Some};
 ghost use Rattle.std.specs.Option.{option_and_then};
 ghost use Rattle.std.specs.Vec.{vec_capacity};
 ghost use Rattle.desk_model.specs.Step.{refusal_beforehand};
 ghost use Rattle.service_core.specs.Leaves.{LeavesDesk};
 ghost use Rattle.service_core.specs.Seen.{settings_of, tables_of};
-ghost use Rattle.page_wire.specs.Forms.{FormStepsOn, StepsUnrefusedOn, refused_before as refused_first};
+ghost use Rattle.page_wire.specs.Forms.{FormStepsOn, StepsOnceOn, StepsUnrefusedOn};
+ghost use Rattle.page_wire.specs.Forms.{refused_before as refused_first};
 ghost use Rattle.page_wire.specs.Next.{next_text as text_after};
 ghost use Rattle.page_wire.specs.Replies as form;
+ghost use Rattle.page_wire.specs.Twice.{told_request as request_told};
 ghost use Rattle.wire_core.specs.Steps.{StaysOn};
 
 use crate::follow_up::run_follow_up;
 use crate::next::{follow_up_command, next_text};
+use crate::redirect::put_redirect_by;
+use crate::twice::{told_request, was_sent};
 use crate::unsent::refused_reply;
 use desk_core::{Answer, Command, Refusal, refusal_without_facts};
 use hours_core::Minute;
@@ -24,7 +28,8 @@ use text_core::Text;
 
 /// Does what a form asks for, its second command only where the first isn't refused, and puts its
 /// reply into the room. What the second would be refused for on every desk is refused before the
-/// first. Out of memory nothing is done, and nothing is put.
+/// first, and what was sent already isn't sent again. Out of memory nothing is done, and nothing is
+/// put.
 #[tactic(auto, using(service_core::proofs::LeftLemmas::left_same))]
 pub(crate) fn submit_form<S: Backend>(
     alloc: Global,
@@ -45,7 +50,7 @@ pub(crate) fn submit_form<S: Backend>(
     ensures left { LeavesDesk S.Store desk.old desk.new }
 {
     match refused_before(alloc, desk.settings(), caller, sent, moment) {
-        Ok(None) => submit_both(alloc, caller, command, sent, moment, desk, room),
+        Ok(None) => submit_once(alloc, caller, command, sent, moment, desk, room),
         Ok(Some(refusal)) => put_refused(alloc, caller, moment, sent, refusal, room),
         Err(_) => Err(AllocError),
     }
@@ -79,6 +84,62 @@ fn refusal_of(
     match second {
         Some(command) => refusal_without_facts(settings, moment.get(), caller, command),
         None => None,
+    }
+}
+
+/// Does what a form asks for whose second command isn't refused beforehand, unless it sends a text
+/// that was sent already.
+#[tactic(auto, using(service_core::proofs::LeftLemmas::left_same))]
+fn submit_once<S: Backend>(
+    alloc: Global,
+    caller: &str,
+    command: &Command,
+    sent: &SubmittedForm,
+    moment: Minute,
+    desk: &mut Desk<S>,
+    room: &mut Vec<u8>,
+) -> Result<(), AllocError>
+    requires empty { room.old.items ≡ [] }
+    requires room { 512 ≤ vec_capacity room.old }
+    ensures ok { OnOk result (StepsOnceOn (settings_of S.Store desk.old) moment caller.now
+        command.now sent.now (request_told sent.now) room.new.items (tables_of S.Store desk.old)
+        (tables_of S.Store desk.new)) }
+    ensures err { OnErr result ((room.new ≡ room.old) × StaysOn (settings_of S.Store desk.old)
+        (tables_of S.Store desk.old) (tables_of S.Store desk.new)) }
+    ensures left { LeavesDesk S.Store desk.old desk.new }
+{
+    match told_request(sent) {
+        Some(id) => submit_unless_sent(alloc, caller, command, sent, id, moment, desk, room),
+        None => submit_both(alloc, caller, command, sent, moment, desk, room),
+    }
+}
+
+/// The same with a text for this request: what was sent already leads where it led then.
+fn submit_unless_sent<S: Backend>(
+    alloc: Global,
+    caller: &str,
+    command: &Command,
+    sent: &SubmittedForm,
+    id: u32,
+    moment: Minute,
+    desk: &mut Desk<S>,
+    room: &mut Vec<u8>,
+) -> Result<(), AllocError>
+    requires empty { room.old.items ≡ [] }
+    requires room { 512 ≤ vec_capacity room.old }
+    ensures ok { OnOk result (StepsOnceOn (settings_of S.Store desk.old) moment caller.now
+        command.now sent.now (Some id) room.new.items (tables_of S.Store desk.old)
+        (tables_of S.Store desk.new)) }
+    ensures err { OnErr result ((room.new ≡ room.old) × StaysOn (settings_of S.Store desk.old)
+        (tables_of S.Store desk.old) (tables_of S.Store desk.new)) }
+    ensures left { LeavesDesk S.Store desk.old desk.new }
+{
+    let dossier = desk.dossier(alloc, moment.get(), caller, id);
+    if was_sent(caller, moment, sent, &dossier) {
+        put_redirect_by(sent, room);
+        Ok(())
+    } else {
+        submit_both(alloc, caller, command, sent, moment, desk, room)
     }
 }
 

@@ -52,6 +52,7 @@ pub(crate) fn other_person_reply(
 /// The reply to one who signs in after a form that wasn't sent, with the cookie.
 pub(crate) fn resumed_reply(
     alloc: Global,
+    https: bool,
     caller: &str,
     moment: Minute,
     cookie: &Text,
@@ -59,12 +60,12 @@ pub(crate) fn resumed_reply(
     sent: &SubmittedForm,
 ) -> Result<Vec<u8>, AllocError>
     ensures { IfOk result (λ out. out.items
-        ≡ form.resumed_reply caller.now moment cookie.now keep sent.now) }
+        ≡ form.resumed_reply https caller.now moment cookie.now keep sent.now) }
 {
     let why = Unsent::SignedIn;
     let page = unsent_form(alloc, caller, moment, sent, &why)?;
     let cookie = cookie.clone()?;
-    with_cookie(alloc, cookie_for(keep, cookie), 200, page)
+    with_cookie(alloc, cookie_for(https, keep, cookie), 200, page)
 }
 
 /// The page of a form that wasn't sent, with what was typed into it, and what was chosen.

@@ -67,6 +67,7 @@ pub(crate) fn make_visit<S: Backend>(
         }
         (
             PageRequest::Resumed {
+                https,
                 caller,
                 cookie,
                 keep,
@@ -74,7 +75,7 @@ pub(crate) fn make_visit<S: Backend>(
             },
             Some(moment),
         ) => {
-            let made = resumed_reply(alloc, caller.as_str(), moment, cookie, *keep, sent);
+            let made = resumed_reply(alloc, *https, caller.as_str(), moment, cookie, *keep, sent);
             put(made, room)
         }
         _ => put(fixed(alloc, visit), room),
@@ -103,9 +104,14 @@ fn fixed(alloc: Global, visit: &PageRequest) -> Result<Vec<u8>, AllocError>
     match visit {
         PageRequest::Style => sheet_reply(alloc, style_sheet().as_bytes()),
         PageRequest::SignIn => sign_in_to(alloc, 200, &Page::Home, false, false),
-        PageRequest::SignedIn { cookie, keep, next } => signed_in(alloc, cookie, *keep, next),
+        PageRequest::SignedIn {
+            https,
+            cookie,
+            keep,
+            next,
+        } => signed_in(alloc, *https, cookie, *keep, next),
         PageRequest::NotSignedIn { next } => sign_in(alloc, 403, next, true, false),
-        PageRequest::SignOut => signed_out(alloc),
+        PageRequest::SignOut { https } => signed_out(alloc, *https),
         PageRequest::Leads(next) => leads_on(alloc, next),
         PageRequest::Unknown { next, to_get } => sign_in(alloc, 403, next, false, *to_get),
         PageRequest::NoMoment
@@ -117,20 +123,26 @@ fn fixed(alloc: Global, visit: &PageRequest) -> Result<Vec<u8>, AllocError>
 }
 
 /// Leads to a page, with the cookie of one who signed in.
-fn signed_in(alloc: Global, cookie: &Text, keep: bool, next: &Page) -> Result<Vec<u8>, AllocError>
-    ensures { IfOk result (λ out. out.items ≡ form.signed_in cookie.now keep next.now) }
+fn signed_in(
+    alloc: Global,
+    https: bool,
+    cookie: &Text,
+    keep: bool,
+    next: &Page,
+) -> Result<Vec<u8>, AllocError>
+    ensures { IfOk result (λ out. out.items ≡ form.signed_in https cookie.now keep next.now) }
 {
     let place = page_path(alloc, next)?;
     let cookie = cookie.clone()?;
-    leads_to(alloc, cookie_for(keep, cookie), place)
+    leads_to(alloc, cookie_for(https, keep, cookie), place)
 }
 
 /// Leads to the page on which one signs in, without a cookie.
-fn signed_out(alloc: Global) -> Result<Vec<u8>, AllocError>
-    ensures { IfOk result (λ out. out.items ≡ form.signed_out) }
+fn signed_out(alloc: Global, https: bool) -> Result<Vec<u8>, AllocError>
+    ensures { IfOk result (λ out. out.items ≡ form.signed_out https) }
 {
     let place = Text::new(alloc, "/sign-in")?;
-    leads_to(alloc, CookieChange::Forget, place)
+    leads_to(alloc, CookieChange::Forget { https }, place)
 }
 
 /// Leads to a page.

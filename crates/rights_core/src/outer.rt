@@ -56,18 +56,18 @@ fn found_around(
     ensures before { OnOk result (words.AreBefore (turn + 1) marks.new) }
 {
     let mut found = Vec::new(alloc);
-    mark(groups, listed(listers, person), &mut found, marks, turn)?;
+    visit(groups, listed(listers, person), &mut found, marks, turn)?;
     let mut next = 0;
     while next < found.len() {
         let places = listed(listers, name_at(groups, found[next]));
-        mark(groups, places, &mut found, marks, turn)?;
+        visit(groups, places, &mut found, marks, turn)?;
         next += 1;
     }
     Ok(found)
 }
 
 /// Marks the places with the turn, and adds those that weren't to what was found.
-fn mark(
+fn visit(
     groups: &[Group],
     places: &[usize],
     found: &mut Vec<usize>,

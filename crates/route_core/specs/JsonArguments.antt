@@ -8,7 +8,7 @@ use Rattle.route_core.specs.Members.{texts_at}
 use Rattle.desk_forms.specs.Keys.{queue_or, request_in}
 use Rattle.desk_forms.specs.Paths.{PathParameter}
 use Rattle.desk_forms.specs.ArgumentSource.{ArgumentSource}
-use Rattle.desk_forms.specs.Asked.{asked}
+use Rattle.desk_forms.specs.CommandFrom.{command_from}
 use Rattle.desk_forms.specs.declared.table.CommandForm.{CommandForm}
 
 -- what the path and the body give, by the keys of arguments
@@ -26,4 +26,4 @@ sheet_of b members = record {
 -- the command of a form, where the members have no other keys than its arguments
 abbrev pub said_by : CommandForm → PathParameter → Members → Option Command
 said_by form b members =
-    if has_only b (arguments form) members then asked form (sheet_of b members) else None
+    if has_only b (arguments form) members then command_from form (sheet_of b members) else None

@@ -6,7 +6,7 @@ ghost use Rattle.desk_forms.specs.Paths.{bound_of};
 ghost use Rattle.route_core.specs.JsonArguments as said;
 
 use crate::members::{Members, has_only, number_at, text_at, text_or_none_at, texts_at};
-use desk_forms::asked::{ArgumentSource, asked};
+use desk_forms::argument_source::{ArgumentSource, command_from};
 use desk_forms::paths::PathParameter;
 use desk_forms::table::{CommandForm, args_of};
 use desk_model::Command;
@@ -76,5 +76,5 @@ pub(crate) fn said_by(
     if !has_only(bound, args_of(of), members) {
         return Ok(None);
     }
-    asked(alloc, of, &JsonArguments { bound, members })
+    command_from(alloc, of, &JsonArguments { bound, members })
 }

@@ -1,10 +1,19 @@
--- Examples of the definitions: the ends of links by their kind, and which entries are told.
-use Rattle.std.specs.Prelude.{◌≡◌, refl, true, false, List, [], ◌∷◌, codes}
+-- Examples of the definitions: the ends of links by their kind, which entries are told, and which
+-- statuses the settings know.
+use Rattle.std.specs.Prelude.{◌≡◌, refl, true, false, ℕ, List, [], ◌∷◌, None, codes}
+use Rattle.settings_core.specs.Settings.{lifecycle_named}
+use Rattle.settings_core.specs.declared.settings.Settings.{Settings}
+use Rattle.desk_model.specs.Known.{knows_status}
+use Rattle.desk_model.specs.Lifecycles.{has_status}
 use Rattle.desk_model.specs.declared.rows.Entry.{Entry}
 use Rattle.desk_model.specs.declared.rows.EntryKind.{EntryKind}
 use Rattle.desk_model.specs.declared.rows.EntryKind.TheVariants.{Comment, Reply, Status}
 use Rattle.desk_model.specs.declared.rows.LinkKind.TheVariants.{DependsOn, MemberOf, RefersTo}
 use Rattle.desk_model.specs.declared.rows.LinkRow.{LinkRow}
+use Rattle.desk_model.specs.declared.rows.QueueRow.{QueueRow}
+use Rattle.desk_model.specs.declared.rows.RequestRow.{RequestRow}
+use Rattle.desk_model.specs.declared.rows.Turn.TheVariants.{Desk}
+use Rattle.service_core.specs.Attaching.{of_queues}
 use Rattle.service_core.specs.Shown.{is_told, numbers_at}
 use Rattle.service_core.specs.declared.links.End.TheVariants.{Source, Target}
 
@@ -55,3 +64,42 @@ reply_is_always_told = (refl, refl)
 
 move_is_always_told : is_told false (entry Status) ≡ true
 move_is_always_told = refl
+
+-- two queues, each with a lifecycle of its own
+abbrev queues : List QueueRow
+queues =
+    record { name = codes "general"; lifecycle = codes "default"; level = None }
+    ∷ record { name = codes "sales"; lifecycle = codes "deals"; level = None }
+    ∷ []
+
+-- a new request in a queue
+abbrev new_in : List ℕ → RequestRow
+new_in queue =
+    record {
+      id = 7;
+      queue = queue;
+      subject = codes "Ink";
+      status = codes "new";
+      owner = None;
+      level = None;
+      created = 1;
+      opened = 1;
+      turn = Desk;
+      since = 1;
+    }
+
+status_of_its_queue's_lifecycle :
+    (settings : Settings)
+    → has_status (lifecycle_named settings (codes "default")) (codes "new") ≡ true
+    → knows_status settings (of_queues queues) (new_in (codes "general")) ≡ true
+status_of_its_queue's_lifecycle settings e = e
+
+-- whatever the lifecycle of another queue has
+status_of_another_lifecycle :
+    (settings : Settings) → lifecycle_named settings (codes "deals") ≡ None
+    → knows_status settings (of_queues queues) (new_in (codes "sales")) ≡ false
+status_of_another_lifecycle settings e = rw e refl
+
+status_in_no_queue :
+    (settings : Settings) → knows_status settings (of_queues queues) (new_in (codes "night")) ≡ false
+status_in_no_queue settings = refl

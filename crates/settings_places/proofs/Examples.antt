@@ -186,6 +186,11 @@ member_that_is_no_one : HasFault people (Rights in_rights.UnknownMember)
     (place.group_member (codes "team") (codes "bob"))
 member_that_is_no_one = (refl, refl, refl)
 
+-- the group first, and then its member
+member_told : place_of_fault people (Rights in_rights.UnknownMember)
+    ≡ Some (place.group_member (codes "team") (codes "bob"))
+member_told = refl
+
 member_that_is_a_group : HasFault people (Rights in_rights.UnknownMember)
     (place.group_member (codes "whole") (codes "team")) → ⊥
 member_that_is_a_group h = absurd (let no : true ≡ false = h.2 in cc)

@@ -53,7 +53,7 @@ use Rattle.store_tables.specs.Contents.Link as chosen
 use Rattle.store_core.proofs.FactsLemmas.{each_alike, found_row, greatest_counts, part_is}
 use Rattle.store_core.proofs.FactsLemmas.{some_found}
 use Rattle.store_core.specs.Found.{persons_in, has_number, dependency_at, dependency_by}
-use Rattle.store_core.specs.Found.{dependency_of, filed, queue_by, seen_request_of, stays_if}
+use Rattle.store_core.specs.Found.{build_request_facts, dependency_of, queue_by, seen_request_of, stays_if}
 use Rattle.store_core.specs.Found.{IsQueue, other_end, with_link}
 use Rattle.store_core.proofs.RiseLemmas.{ascending_where, role_total, the_list}
 use Rattle.store_core.proofs.RiseLemmas.{links_rise, all_tested, entries_numbered, own_entries}
@@ -209,14 +209,14 @@ on_ok (Err e) f h = h
 pub request_facts : (desk : Desk) (id : ℕ) (q : Option QueueRow) (request : Option SeenRequest)
     (stays : List Stay) → request ≡ seen_request_at desk id
     → stays ≡ stays_if (is_some request) (stays_at desk id) → q ≡ queue_by desk request
-    → filed q request stays ≡ facts_on_request desk id
+    → build_request_facts q request stays ≡ facts_on_request desk id
 request_facts desk id q request stays on_is stays_are q_is =
     rw (stays_are, q_is, on_is) (grind arith)
 
 -- the same without the stays
 pub request_alone : (desk : Desk) (id : ℕ) (q : Option QueueRow) (request : Option SeenRequest)
     (none : List Stay) → none ≡ [] → request ≡ seen_request_at desk id
-    → q ≡ queue_by desk request → filed q request none ≡ facts_of_request desk id
+    → q ≡ queue_by desk request → build_request_facts q request none ≡ facts_of_request desk id
 request_alone desk id q request none none_is on_is q_is =
     rw (none_is, q_is, on_is) (grind arith)
 

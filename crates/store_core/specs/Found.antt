@@ -64,16 +64,16 @@ other_end desk link has_source =
 
 -- ---- facts, put together
 
-abbrev pub counted : Option QueueRow → ℕ → ℕ → Facts
-counted queue queues requests =
+abbrev pub build_queue_facts : Option QueueRow → ℕ → ℕ → Facts
+build_queue_facts queue queues requests =
     record no_facts { queue = queue; queue_count = queues; request_count = requests }
 
 -- the stays of a request, where it is there
 abbrev pub stays_if : Bool → List Stay → List Stay
 stays_if is_there stays = if is_there then stays else []
 
-abbrev pub filed : Option QueueRow → Option SeenRequest → List Stay → Facts
-filed queue request stays =
+abbrev pub build_request_facts : Option QueueRow → Option SeenRequest → List Stay → Facts
+build_request_facts queue request stays =
     record no_facts { queue = queue; request = request; stays = stays }
 
 abbrev pub with_dependencies : Facts → List Dependency → Facts

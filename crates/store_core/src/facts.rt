@@ -73,17 +73,17 @@ fn facts_by_scope<S: Alter>(
 {
     match scope {
         Scope::Nothing => Ok(no_facts(alloc)),
-        Scope::QueueAlone(name) => facts_of_queue(alloc, tables, name),
-        Scope::Queue(name) => facts_on_queue(alloc, tables, name),
+        Scope::QueueAlone(name) => queue_facts(alloc, tables, name),
+        Scope::Queue(name) => queue_facts_with_counts(alloc, tables, name),
         Scope::RequestAlone(id) => request_facts(alloc, tables, id),
         Scope::Request(id) => request_facts_with_stays(alloc, tables, id),
-        Scope::Dependencies(id) => facts_of_move(alloc, tables, id),
-        Scope::Link(link) => facts_of_link(alloc, tables, link),
+        Scope::Dependencies(id) => move_facts(alloc, tables, id),
+        Scope::Link(link) => link_facts(alloc, tables, link),
     }
 }
 
 /// Of a reading of a queue: the queue alone.
-fn facts_of_queue<S: Alter>(
+fn queue_facts<S: Alter>(
     alloc: Global,
     tables: &mut Tables<S>,
     name: &Text,
@@ -92,12 +92,12 @@ fn facts_of_queue<S: Alter>(
         (seen S.Store tables.old) (seen S.Store tables.new) result }
 {
     let queue = queue_at(tables, name)?;
-    Ok(counted(alloc, queue, 0, 0))
+    Ok(build_queue_facts(alloc, queue, 0, 0))
 }
 
 /// Of a command that changes a queue: the queue and both counts. How many requests there are is the
 /// last number, since the numbers have no gaps.
-fn facts_on_queue<S: Alter>(
+fn queue_facts_with_counts<S: Alter>(
     alloc: Global,
     tables: &mut Tables<S>,
     name: &Text,
@@ -108,7 +108,7 @@ fn facts_on_queue<S: Alter>(
     let queues = queue_count(tables)?;
     let requests = last_id(tables)?;
     let queue = queue_at(tables, name)?;
-    Ok(counted(alloc, queue, queues, requests))
+    Ok(build_queue_facts(alloc, queue, queues, requests))
 }
 
 /// Of a command that leaves a request's row: the request and its queue.
@@ -122,7 +122,7 @@ fn request_facts<S: Alter>(
 {
     let request = seen_request_at(alloc, tables, id)?;
     let queue = queue_of(tables, &request)?;
-    Ok(filed(alloc, queue, request, Sequence::from(Vec::new(alloc))))
+    Ok(build_request_facts(alloc, queue, request, Sequence::from(Vec::new(alloc))))
 }
 
 /// Of one that puts another row, and of a reading of a request: its stays too.
@@ -137,15 +137,11 @@ fn request_facts_with_stays<S: Alter>(
     let request = seen_request_at(alloc, tables, id)?;
     let stays = stays_if(alloc, tables, id, request.is_some())?;
     let queue = queue_of(tables, &request)?;
-    Ok(filed(alloc, queue, request, stays))
+    Ok(build_request_facts(alloc, queue, request, stays))
 }
 
 /// Of a move: what the request depends on too, which is nothing where it isn't there.
-fn facts_of_move<S: Alter>(
-    alloc: Global,
-    tables: &mut Tables<S>,
-    id: u32,
-) -> Result<Facts, StoreFault>
+fn move_facts<S: Alter>(alloc: Global, tables: &mut Tables<S>, id: u32) -> Result<Facts, StoreFault>
     ensures { Reads (OfDesk (λ desk seen. seen ≡ besides_on Dependencies id desk))
         (seen S.Store tables.old) (seen S.Store tables.new) result }
 {
@@ -163,7 +159,7 @@ fn facts_of_move<S: Alter>(
 }
 
 /// Of a link: the request at its other end too, and whether the link is there.
-fn facts_of_link<S: Alter>(
+fn link_facts<S: Alter>(
     alloc: Global,
     tables: &mut Tables<S>,
     link: LinkRow,
@@ -217,8 +213,13 @@ fn is_linked_if<S: Alter>(
 }
 
 /// Facts of a queue, with both counts.
-fn counted(alloc: Global, queue: Option<QueueRow>, queue_count: u32, request_count: u32) -> Facts
-    ensures { result ≡ found.counted queue queue_count request_count }
+fn build_queue_facts(
+    alloc: Global,
+    queue: Option<QueueRow>,
+    queue_count: u32,
+    request_count: u32,
+) -> Facts
+    ensures { result ≡ found.build_queue_facts queue queue_count request_count }
 {
     Facts {
         queue,
@@ -229,13 +230,13 @@ fn counted(alloc: Global, queue: Option<QueueRow>, queue_count: u32, request_cou
 }
 
 /// Facts of a request, its stays and its queue.
-fn filed(
+fn build_request_facts(
     alloc: Global,
     queue: Option<QueueRow>,
     request: Option<SeenRequest>,
     stays: Sequence<Stay>,
 ) -> Facts
-    ensures { result ≡ found.filed queue request stays }
+    ensures { result ≡ found.build_request_facts queue request stays }
 {
     Facts {
         queue,

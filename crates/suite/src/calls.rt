@@ -64,7 +64,7 @@ pub(crate) fn serve_page<S: Backend>(
     desk: &mut Desk<S>,
 ) -> Result<Vec<u8>, AllocError> {
     let read = page_wire::read_sent(alloc, message.1.as_slice());
-    let reply = page_wire::answer_sent(alloc, routes, &read, message.0, desk);
+    let reply = page_wire::answer_sent(alloc, routes, false, &read, message.0, desk);
     drop(read);
     reply
 }

@@ -19,10 +19,11 @@ use Rattle.wire_core.proofs.Stepping.{leads_nowhere, leads_same, leads_wider}
 use Rattle.page_wire.specs.Steps.{MessageReadStepsOn}
 use Rattle.web_core.specs.Control.{IsTold, control_by, control_of, copy_told, stop_reply}
 use Rattle.web_core.specs.Dates.{IsDatedAt}
+use Rattle.web_core.specs.Guessing.{barred_reply}
 use Rattle.web_core.specs.Messages.{IsRepliedOn, IsReplyTo, IsSentOn, IsSentTo, IsTakenAs, TakenSteps}
 use Rattle.web_core.specs.Messages.{TellsExpecting}
 use Rattle.web_core.specs.declared.control.Control.{Control}
-use Rattle.web_core.specs.declared.control.Control.TheVariants.{Nothing, Stop, Copy}
+use Rattle.web_core.specs.declared.control.Control.TheVariants.{Nothing, Bar, Stop, Copy}
 
 abbrev Reads : List ℕ → Result Request WireFault → Type 0
 Reads bytes read = read ≢ Err NoMemory → IsTakenAs bytes read
@@ -34,121 +35,139 @@ plain : (bytes : List ℕ) (expects : Bool) → expects ≡ false → TellsExpec
 plain bytes expects is told =
     subst (λ (b : Bool). MatchBool b (IsExpecting bytes) (¬ (IsExpecting bytes))) is told
 
-nothing_else : (s : Settings) (read : Result Request WireFault) (expects : Bool) (control : Control)
-    → expects ≡ false → control ≡ control_by expects s read → control ≡ control_of s read
-nothing_else s read true control is same = let no : true ≡ false = is in cc
-nothing_else s read false control is same = same
+nothing_else : (s : Settings) (barred : Bool) (read : Result Request WireFault) (expects : Bool)
+    (control : Control)
+    → expects ≡ false → control ≡ control_by expects barred s read → control ≡ control_of barred s read
+nothing_else s barred read true control is same = let no : true ≡ false = is in cc
+nothing_else s barred read false control is same = same
 
 -- the steps of what was read, and asks this of the server itself
-abbrev TakenOn : Settings → ℕ → Bool → Result Request WireFault → Control → List ℕ → State → State
+abbrev TakenOn : Bool → Settings → ℕ → Bool → Result Request WireFault → Control → List ℕ → State → State
     → Type 0
-TakenOn s at copied read control bytes =
-    OverTables s (λ desk after. TakenSteps s at copied read control desk bytes after)
+TakenOn https s at copied read control bytes =
+    OverTables s (λ desk after. TakenSteps https s at copied read control desk bytes after)
 
 no_memory : (bytes : List ℕ) → TellsFault NoMemory bytes → bytes ≡ bytes_of (unavailable false)
 no_memory bytes (inl is) = is
 no_memory bytes (inr (other, told)) = absurd (other refl)
 
 -- there was no memory for the step
-pub left_out : (s : Settings) (sent : Sent) (bytes : List ℕ) (old new : State)
-    → bytes ≡ bytes_of (unavailable false) → LeavesTables old new → IsRepliedOn s sent bytes old new
+pub left_out : (https : Bool) (s : Settings) (sent : Sent) (bytes : List ℕ) (old new : State)
+    → bytes ≡ bytes_of (unavailable false) → LeavesTables old new → IsRepliedOn https s sent bytes old new
 unfolding IsReplyTo
-left_out s sent bytes old new is kept =
-    leads_same s (λ desk after. IsReplyTo s sent desk bytes after) old new kept
+left_out https s sent bytes old new is kept =
+    leads_same s (λ desk after. IsReplyTo https s sent desk bytes after) old new kept
     (λ desk. inl (is, refl))
 
-taken_so : (s : Settings) (sent : Sent) (copied : Bool) (read : Result Request WireFault)
+taken_so : (https : Bool) (s : Settings) (sent : Sent) (copied barred : Bool)
+    (read : Result Request WireFault)
     (bytes : List ℕ) (old new : State) → Plain sent.1 → IsTakenAs sent.1 read
-    → TakenOn s sent.0 copied read (control_of s read) bytes old new
-    → IsRepliedOn s sent bytes old new
+    → TakenOn https s sent.0 copied read (control_of barred s read) bytes old new
+    → IsRepliedOn https s sent bytes old new
 unfolding IsReplyTo
-taken_so s sent copied read bytes old new other reads steps =
-    leads_wider s _ _ old new (λ desk after step. inr (inr (other, read, copied, reads, step))) steps
+taken_so https s sent copied barred read bytes old new other reads steps =
+    leads_wider s _ _ old new (λ desk after step. inr (inr (other, read, copied, barred, reads, step))) steps
 
-unread_so : (s : Settings) (sent : Sent) (copied : Bool) (bytes : List ℕ) (old new : State)
-    → TakenOn s sent.0 copied (Err NoMemory) Nothing bytes old new
-    → IsRepliedOn s sent bytes old new
+unread_so : (https : Bool) (s : Settings) (sent : Sent) (copied : Bool) (bytes : List ℕ) (old new : State)
+    → TakenOn https s sent.0 copied (Err NoMemory) Nothing bytes old new
+    → IsRepliedOn https s sent bytes old new
 unfolding IsReplyTo
-unread_so s sent copied bytes old new steps =
+unread_so https s sent copied bytes old new steps =
     leads_wider s _ _ old new (λ desk after step. inl (no_memory bytes step.0, step.1)) steps
 
-taken : (s : Settings) (sent : Sent) (copied : Bool) (read : Result Request WireFault)
+taken : (https : Bool) (s : Settings) (sent : Sent) (copied barred : Bool)
+    (read : Result Request WireFault)
     (bytes : List ℕ) (old new : State) → Plain sent.1 → Reads sent.1 read
-    → TakenOn s sent.0 copied read (control_of s read) bytes old new
-    → IsRepliedOn s sent bytes old new
-taken s sent copied (Ok request) bytes old new other reads steps =
-    taken_so s sent copied (Ok request) bytes old new other (reads (λ e. cc)) steps
-taken s sent copied (Err NoMemory) bytes old new other reads steps =
-    unread_so s sent copied bytes old new steps
-taken s sent copied (Err Read) bytes old new other reads steps =
-    taken_so s sent copied (Err Read) bytes old new other (reads (λ e. cc)) steps
-taken s sent copied (Err TooLong) bytes old new other reads steps =
-    taken_so s sent copied (Err TooLong) bytes old new other (reads (λ e. cc)) steps
-taken s sent copied (Err Truncated) bytes old new other reads steps =
-    taken_so s sent copied (Err Truncated) bytes old new other (reads (λ e. cc)) steps
-taken s sent copied (Err BadHead) bytes old new other reads steps =
-    taken_so s sent copied (Err BadHead) bytes old new other (reads (λ e. cc)) steps
-taken s sent copied (Err BadLength) bytes old new other reads steps =
-    taken_so s sent copied (Err BadLength) bytes old new other (reads (λ e. cc)) steps
+    → TakenOn https s sent.0 copied read (control_of barred s read) bytes old new
+    → IsRepliedOn https s sent bytes old new
+taken https s sent copied barred (Ok request) bytes old new other reads steps =
+    taken_so https s sent copied barred (Ok request) bytes old new other (reads (λ e. cc)) steps
+taken https s sent copied barred (Err NoMemory) bytes old new other reads steps =
+    unread_so https s sent copied bytes old new steps
+taken https s sent copied barred (Err Read) bytes old new other reads steps =
+    taken_so https s sent copied barred (Err Read) bytes old new other (reads (λ e. cc)) steps
+taken https s sent copied barred (Err TooLong) bytes old new other reads steps =
+    taken_so https s sent copied barred (Err TooLong) bytes old new other (reads (λ e. cc)) steps
+taken https s sent copied barred (Err Truncated) bytes old new other reads steps =
+    taken_so https s sent copied barred (Err Truncated) bytes old new other (reads (λ e. cc)) steps
+taken https s sent copied barred (Err BadHead) bytes old new other reads steps =
+    taken_so https s sent copied barred (Err BadHead) bytes old new other (reads (λ e. cc)) steps
+taken https s sent copied barred (Err BadLength) bytes old new other reads steps =
+    taken_so https s sent copied barred (Err BadLength) bytes old new other (reads (λ e. cc)) steps
 
-by_control : (s : Settings) (sent : Sent) (copied expects : Bool) (read : Result Request WireFault)
+by_control : (https : Bool) (s : Settings) (sent : Sent) (copied expects barred : Bool)
+    (read : Result Request WireFault)
     (control : Control) (bytes : List ℕ) (old new : State) → expects ≡ false
-    → TellsExpecting sent.1 expects → control ≡ control_by expects s read → Reads sent.1 read
-    → TakenOn s sent.0 copied read control bytes old new → IsRepliedOn s sent bytes old new
-by_control s sent copied expects read control bytes old new unexpected told is reads steps =
-    taken s sent copied read bytes old new (plain sent.1 expects unexpected told) reads
-    (subst (λ (c : Control). TakenOn s sent.0 copied read c bytes old new)
-    (nothing_else s read expects control unexpected is) steps)
+    → TellsExpecting sent.1 expects → control ≡ control_by expects barred s read → Reads sent.1 read
+    → TakenOn https s sent.0 copied read control bytes old new → IsRepliedOn https s sent bytes old new
+by_control https s sent copied expects barred read control bytes old new unexpected told is reads steps =
+    taken https s sent copied barred read bytes old new (plain sent.1 expects unexpected told) reads
+    (subst (λ (c : Control). TakenOn https s sent.0 copied read c bytes old new)
+    (nothing_else s barred read expects control unexpected is) steps)
 
 -- it asks nothing of the server itself, and was answered
-pub answered : (s : Settings) (sent : Sent) (copied expects : Bool) (read : Result Request WireFault)
+pub answered : (https : Bool) (s : Settings) (sent : Sent) (copied expects barred : Bool)
+    (read : Result Request WireFault)
     (bytes : List ℕ) (old new : State) → expects ≡ false → TellsExpecting sent.1 expects
-    → Nothing ≡ control_by expects s read → Reads sent.1 read
-    → MessageReadStepsOn s sent.0 read bytes old new → IsRepliedOn s sent bytes old new
-answered s sent copied expects read bytes old new unexpected told is reads steps =
-    by_control s sent copied expects read Nothing bytes old new unexpected told is reads steps
+    → Nothing ≡ control_by expects barred s read → Reads sent.1 read
+    → MessageReadStepsOn https s sent.0 read bytes old new → IsRepliedOn https s sent bytes old new
+answered https s sent copied expects barred read bytes old new unexpected told is reads steps =
+    by_control https s sent copied expects barred read Nothing bytes old new unexpected told is reads steps
+
+-- its token comes from an address that is barred
+pub barred_so : (https : Bool) (s : Settings) (sent : Sent) (copied expects barred : Bool)
+    (read : Result Request WireFault)
+    (bytes : List ℕ) (tables : State) → expects ≡ false → TellsExpecting sent.1 expects
+    → Bar ≡ control_by expects barred s read → Reads sent.1 read → bytes ≡ bytes_of barred_reply
+    → IsRepliedOn https s sent bytes tables tables
+barred_so https s sent copied expects barred read bytes tables unexpected told is reads replied =
+    by_control https s sent copied expects barred read Bar bytes tables tables unexpected told is reads
+    (leads_nowhere s _ tables (λ desk. (replied, refl)))
 
 -- it asks the server to stop
-pub stopped : (s : Settings) (sent : Sent) (copied expects : Bool) (read : Result Request WireFault)
+pub stopped : (https : Bool) (s : Settings) (sent : Sent) (copied expects barred : Bool)
+    (read : Result Request WireFault)
     (bytes : List ℕ) (tables : State) → expects ≡ false → TellsExpecting sent.1 expects
-    → Stop ≡ control_by expects s read → Reads sent.1 read → bytes ≡ bytes_of stop_reply
-    → IsRepliedOn s sent bytes tables tables
-stopped s sent copied expects read bytes tables unexpected told is reads replied =
-    by_control s sent copied expects read Stop bytes tables tables unexpected told is reads
+    → Stop ≡ control_by expects barred s read → Reads sent.1 read → bytes ≡ bytes_of stop_reply
+    → IsRepliedOn https s sent bytes tables tables
+stopped https s sent copied expects barred read bytes tables unexpected told is reads replied =
+    by_control https s sent copied expects barred read Stop bytes tables tables unexpected told is reads
     (leads_nowhere s _ tables (λ desk. (replied, refl)))
 
 -- it asks for a copy
-pub copied_so : (s : Settings) (sent : Sent) (copied expects : Bool)
+pub copied_so : (https : Bool) (s : Settings) (sent : Sent) (copied expects barred : Bool)
     (read : Result Request WireFault) (bytes : List ℕ) (tables : State) → expects ≡ false
-    → TellsExpecting sent.1 expects → Copy ≡ control_by expects s read → Reads sent.1 read
-    → bytes ≡ bytes_of (copy_told copied) → IsRepliedOn s sent bytes tables tables
-copied_so s sent copied expects read bytes tables unexpected told is reads replied =
-    by_control s sent copied expects read Copy bytes tables tables unexpected told is reads
+    → TellsExpecting sent.1 expects → Copy ≡ control_by expects barred s read → Reads sent.1 read
+    → bytes ≡ bytes_of (copy_told copied) → IsRepliedOn https s sent bytes tables tables
+copied_so https s sent copied expects barred read bytes tables unexpected told is reads replied =
+    by_control https s sent copied expects barred read Copy bytes tables tables unexpected told is reads
     (leads_nowhere s _ tables (λ desk. (replied, refl)))
 
 -- it expects something
-pub failed : (s : Settings) (sent : Sent) (expects : Bool) (bytes : List ℕ) (tables : State)
+pub failed : (https : Bool) (s : Settings) (sent : Sent) (expects : Bool) (bytes : List ℕ) (tables : State)
     → expects ≡ true → TellsExpecting sent.1 expects → bytes ≡ bytes_of expectation_failed
-    → IsRepliedOn s sent bytes tables tables
+    → IsRepliedOn https s sent bytes tables tables
 unfolding IsReplyTo
-failed s sent expects bytes tables expected told replied =
+failed https s sent expects bytes tables expected told replied =
     let waits : IsExpecting sent.1 =
     subst (λ (b : Bool). MatchBool b (IsExpecting sent.1) (¬ (IsExpecting sent.1))) expected told in
-    leads_nowhere s (λ desk after. IsReplyTo s sent desk bytes after) tables
+    leads_nowhere s (λ desk after. IsReplyTo https s sent desk bytes after) tables
     (λ desk. inr (inl (waits, replied, refl)))
 
 -- nothing is asked of the server itself then
-pub untold : (s : Settings) (read : Result Request WireFault) (expects : Bool) (control : Control)
-    (copied : Bool) (bytes : List ℕ) → expects ≡ true → control ≡ control_by expects s read
+pub untold : (s : Settings) (barred : Bool) (read : Result Request WireFault) (expects : Bool)
+    (control : Control)
+    (copied : Bool) (bytes : List ℕ) → expects ≡ true → control ≡ control_by expects barred s read
     → IsTold control copied bytes
-untold s read true Nothing copied bytes expected is = tt
-untold s read true Stop copied bytes expected is = let unexpected : Stop ≡ Nothing = is in cc
-untold s read true Copy copied bytes expected is = let unexpected : Copy ≡ Nothing = is in cc
-untold s read false control copied bytes expected is = let unexpected : false ≡ true = expected in cc
+untold s barred read true Nothing copied bytes expected is = tt
+untold s barred read true Bar copied bytes expected is = let unexpected : Bar ≡ Nothing = is in cc
+untold s barred read true Stop copied bytes expected is = let unexpected : Stop ≡ Nothing = is in cc
+untold s barred read true Copy copied bytes expected is = let unexpected : Copy ≡ Nothing = is in cc
+untold s barred read false control copied bytes expected is = let unexpected : false ≡ true = expected in cc
 
 -- it is sent with its date
-pub sent_so : (s : Settings) (sent : Sent) (second : Option ℕ) (whole bytes : List ℕ) (old new : State)
-    → IsRepliedOn s sent whole old new → IsDatedAt second whole bytes → IsSentOn s sent bytes old new
+pub sent_so : (https : Bool) (s : Settings) (sent : Sent) (second : Option ℕ) (whole bytes : List ℕ) (old new : State)
+    → IsRepliedOn https s sent whole old new → IsDatedAt second whole bytes → IsSentOn https s sent bytes old new
 unfolding IsSentTo
-sent_so s sent second whole bytes old new steps date =
+sent_so https s sent second whole bytes old new steps date =
     leads_wider s _ _ old new (λ desk after step. (whole, (second, date), step)) steps

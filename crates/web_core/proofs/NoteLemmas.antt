@@ -5,9 +5,9 @@ use Rattle.message_core.specs.declared.fault.WireFault.{WireFault}
 use Rattle.message_core.specs.declared.request.Request.{Request}
 use Rattle.web_core.specs.Notes.{IsNote}
 
-pub note_same : (proxied : Bool) (s t : Settings) (at : ℕ) (read : Result Request WireFault)
-    (bytes reply note : List ℕ) → t ≡ s → bytes ≡ reply → IsNote proxied t at read bytes note
-    → IsNote proxied s at read reply note
-note_same proxied s t at read bytes reply note same is noted =
-    subst (λ (b : List ℕ). IsNote proxied s at read b note) is
-    (subst (λ (x : Settings). IsNote proxied x at read bytes note) same noted)
+pub note_same : (proxied https : Bool) (s t : Settings) (at : ℕ) (read : Result Request WireFault)
+    (bytes reply note : List ℕ) → t ≡ s → bytes ≡ reply → IsNote proxied https t at read bytes note
+    → IsNote proxied https s at read reply note
+note_same proxied https s t at read bytes reply note same is noted =
+    subst (λ (b : List ℕ). IsNote proxied https s at read b note) is
+    (subst (λ (x : Settings). IsNote proxied https x at read bytes note) same noted)

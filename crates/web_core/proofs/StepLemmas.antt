@@ -9,9 +9,9 @@ use Rattle.store_core.specs.Due.{due_of_row}
 use Rattle.server_core.specs.Turns.{Answered}
 use Rattle.web_core.specs.Messages.{StepsAt}
 
-pub step_spared : (s : Settings) (old mid new : State) (a : Answered)
-    → StepsAt s old a mid → LeavesTables mid new → StepsAt s old a new
-step_spared s old mid new a did kept = (
+pub step_spared : (https : Bool) (s : Settings) (old mid new : State) (a : Answered)
+    → StepsAt https s old a mid → LeavesTables mid new → StepsAt https s old a new
+step_spared https s old mid new a did kept = (
   λ desk is stand clean.
       let it = did.0 desk is stand (kept.clean clean) in
       (it.0, it.1, stands kept (contents_of (due_of_row s it.0) it.0) it.2),

@@ -15,7 +15,8 @@ use Rattle.route_core.specs.Commands.{caller_of}
 use Rattle.server_core.specs.Host.{more}
 use Rattle.wire_core.specs.Replies.{reply_with}
 use Rattle.web_core.specs.declared.control.Control.{Control}
-use Rattle.web_core.specs.declared.control.Control.TheVariants.{Nothing, Stop, Copy}
+use Rattle.web_core.specs.Guessing.{barred_reply, sends_token}
+use Rattle.web_core.specs.declared.control.Control.TheVariants.{Nothing, Bar, Stop, Copy}
 
 -- ---- who may
 
@@ -45,6 +46,7 @@ if_may may control = if may then control else Nothing
 
 abbrev pub if_asked : Bool → Control → Control
 if_asked may Nothing = Nothing
+if_asked may Bar = Bar
 if_asked may Stop = if_may may Stop
 if_asked may Copy = if_may may Copy
 
@@ -52,18 +54,24 @@ abbrev pub control_in : Settings → Message → Control
 control_in settings message =
     if_asked (may_control settings message) (control_at (path_in message.target))
 
+-- a token from an address that is barred isn't looked at
+abbrev pub control_from : Bool → Settings → Message → Control
+control_from barred settings message =
+    if barred && sends_token message then Bar else control_in settings message
+
 -- what was read asks of the server itself
-abbrev pub control_of : Settings → Result Request WireFault → Control
-control_of settings (Ok request) = control_in settings request.message
-control_of settings (Err fault) = Nothing
+abbrev pub control_of : Bool → Settings → Result Request WireFault → Control
+control_of barred settings (Ok request) = control_from barred settings request.message
+control_of barred settings (Err fault) = Nothing
 
 -- one that expects something asks for nothing yet
-abbrev pub control_by : Bool → Settings → Result Request WireFault → Control
-control_by true settings read = Nothing
-control_by false settings read = control_of settings read
+abbrev pub control_by : Bool → Bool → Settings → Result Request WireFault → Control
+control_by true barred settings read = Nothing
+control_by false barred settings read = control_of barred settings read
 
 abbrev pub is_stop : Control → Bool
 is_stop Nothing = false
+is_stop Bar = false
 is_stop Stop = true
 is_stop Copy = false
 
@@ -88,11 +96,13 @@ counted false made = made
 -- the tables are copied only where that is asked for
 abbrev pub CopiesBy : Control → Bool → ℕ → ℕ → Type 0
 CopiesBy Nothing copied made makes = makes ≡ made
+CopiesBy Bar copied made makes = makes ≡ made
 CopiesBy Stop copied made makes = makes ≡ made
 CopiesBy Copy copied made makes = makes ≡ counted copied made
 
 -- what is told of it: that it stops, and that a copy was made exactly where one was
 abbrev pub IsTold : Control → Bool → List ℕ → Type 0
 IsTold Nothing copied reply = ⊤
+IsTold Bar copied reply = reply ≡ bytes_of barred_reply
 IsTold Stop copied reply = reply ≡ bytes_of stop_reply
 IsTold Copy copied reply = reply ≡ bytes_of (copy_told copied)

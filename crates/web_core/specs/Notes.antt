@@ -20,22 +20,22 @@ forwarded_in proxied h =
 
 -- whom it comes from: by its cookie at a place of the pages, at this minute, and else by the token
 -- of its line
-abbrev pub person_in : Settings → ℕ → Message → (List ℕ → List (List ℕ)) → List ℕ
-person_in settings at message lines =
+abbrev pub person_in : Bool → Settings → ℕ → Message → (List ℕ → List (List ℕ)) → List ℕ
+person_in https settings at message lines =
     unwrap_or
-    (if is_page_path (path_in message.target) then pages.caller_of settings at lines
+    (if is_page_path (path_in message.target) then pages.caller_of https settings at lines
     else interface.caller_of settings message.token) []
 
 -- the note of what was read and of its reply: of bytes that are no message, of the reply alone
-abbrev pub NotesRead : Bool → Settings → ℕ → Result Request WireFault → List ℕ → List ℕ → Type 0
-NotesRead proxied settings at (Err fault) reply note = note ≡ note_text [] [] [] [] reply
-NotesRead proxied settings at (Ok request) reply note =
+abbrev pub NotesRead : Bool → Bool → Settings → ℕ → Result Request WireFault → List ℕ → List ℕ → Type 0
+NotesRead proxied https settings at (Err fault) reply note = note ≡ note_text [] [] [] [] reply
+NotesRead proxied https settings at (Ok request) reply note =
     (h : RequestHead) → StartsWith request.head h []
     → note ≡ note_text (forwarded_in proxied h)
-    (person_in settings at request.message (values_in h)) request.message.method request.message.target
+    (person_in https settings at request.message (values_in h)) request.message.method request.message.target
     reply
 
 -- it is that, or nothing where there was no memory for it
-abbrev pub IsNote : Bool → Settings → ℕ → Result Request WireFault → List ℕ → List ℕ → Type 0
-IsNote proxied settings at read reply note =
-    (note ≡ []) ⊎ NotesRead proxied settings at read reply note
+abbrev pub IsNote : Bool → Bool → Settings → ℕ → Result Request WireFault → List ℕ → List ℕ → Type 0
+IsNote proxied https settings at read reply note =
+    (note ≡ []) ⊎ NotesRead proxied https settings at read reply note

@@ -4,8 +4,10 @@ ghost use Rattle.message_core.specs.Reply.{bytes_of};
 ghost use Rattle.page_routes.specs.Places.{path_in};
 ghost use Rattle.route_core.specs.Commands.{caller_of};
 ghost use Rattle.web_core.specs.Control as form;
+ghost use Rattle.web_core.specs.Guessing as guessing;
 ghost use Rattle.web_core.specs.Control.{CopiesBy};
 
+use crate::guessing::sends_token;
 use crate::system::System;
 use browser_core::cut;
 use message_core::{Message, Request, WireFault, unavailable_reply};
@@ -17,6 +19,8 @@ use text_core::Text;
 #[derive(Clone, Copy)]
 pub(crate) enum Control {
     Nothing,
+    /// That it looks at a token from an address that is barred.
+    Bar,
     /// That it stops.
     Stop,
     /// That it copies its tables.
@@ -24,28 +28,39 @@ pub(crate) enum Control {
 }
 
 /// What was read asks of the server itself, where who sent it may: a POST of `/stop` or `/copy`
-/// with the token of a person who holds `SuperUser` on all queues. A message that expects something
-/// asks for nothing yet.
+/// with the token of a person who holds `SuperUser` on all queues; or a token on the page that signs
+/// in, from an address that is barred. A message that expects something asks for nothing yet.
 pub(crate) fn control_by(
     expects: bool,
+    barred: bool,
     settings: &Settings,
     read: &Result<Request, WireFault>,
 ) -> Control
-    ensures { result ≡ form.control_by expects settings.now read.now }
+    ensures { result ≡ form.control_by expects barred settings.now read.now }
 {
     if expects {
         Control::Nothing
     } else {
-        control_of(settings, read)
+        control_of(barred, settings, read)
     }
 }
 
-fn control_of(settings: &Settings, read: &Result<Request, WireFault>) -> Control
-    ensures { result ≡ form.control_of settings.now read.now }
+fn control_of(barred: bool, settings: &Settings, read: &Result<Request, WireFault>) -> Control
+    ensures { result ≡ form.control_of barred settings.now read.now }
 {
     match read {
-        Ok(request) => control_in(settings, &request.message),
+        Ok(request) => control_from(barred, settings, &request.message),
         Err(_) => Control::Nothing,
+    }
+}
+
+fn control_from(barred: bool, settings: &Settings, message: &Message) -> Control
+    ensures { result ≡ form.control_from barred settings.now message.now }
+{
+    if barred && sends_token(message) {
+        Control::Bar
+    } else {
+        control_in(settings, message)
     }
 }
 
@@ -54,6 +69,7 @@ fn control_in(settings: &Settings, message: &Message) -> Control
 {
     match control_at(cut(message.target.as_slice(), b'?').0) {
         Control::Nothing => Control::Nothing,
+        Control::Bar => Control::Bar,
         Control::Stop => if_may(may_control(settings, message), Control::Stop),
         Control::Copy => if_may(may_control(settings, message), Control::Copy),
     }
@@ -120,7 +136,7 @@ fn is_stop(control: Control) -> bool
 {
     match control {
         Control::Stop => true,
-        Control::Nothing | Control::Copy => false,
+        Control::Nothing | Control::Bar | Control::Copy => false,
     }
 }
 
@@ -130,8 +146,20 @@ pub(crate) fn copy_if<C: System>(control: Control, system: &mut C) -> bool
 {
     match control {
         Control::Copy => system.copy(),
-        Control::Nothing | Control::Stop => false,
+        Control::Nothing | Control::Bar | Control::Stop => false,
     }
+}
+
+/// The reply to a token from an address that is barred, for which no memory is needed.
+pub(crate) fn barred_reply() -> &'static [u8]
+    ensures { result.now ≡ bytes_of guessing.barred_reply }
+{
+    b"HTTP/1.1 429 Too Many Requests\r\n\
+      Content-Type: text/plain; charset=utf-8\r\n\
+      Content-Length: 45\r\n\
+      Connection: close\r\n\
+      \r\n\
+      too many wrong tokens: try again in a minute\n"
 }
 
 /// The reply that the server stops, for which no memory is needed.

@@ -8,7 +8,8 @@
 //! `System` tells. After each message it looks whether its store is shut. It is served on unless
 //! that is so, or somebody who may has asked the server to stop. Where one asks for a copy of the
 //! tables, its `System` makes it between two messages. The log notes what of the message it may
-//! tell.
+//! tell. Behind a proxy an address from which ten wrong tokens came within a minute gets 429 for
+//! further ones, until the minute is over.
 //!
 //! `serve_web` has both clauses: what happens to the tables is a run of such steps, and the
 //! server's own history.
@@ -17,6 +18,7 @@
 mod control;
 mod date;
 mod desk;
+mod guessing;
 pub mod laws;
 mod note;
 mod serve_all;

@@ -18,14 +18,15 @@ use text_core::Text;
 pub(crate) fn note_on(
     alloc: Global,
     proxied: bool,
+    https: bool,
     settings: &Settings,
     at: u32,
     read: &Result<Request, WireFault>,
     reply: &[u8],
 ) -> Vec<u8>
-    ensures { IsNote proxied settings.now at read.now reply.now result.items }
+    ensures { IsNote proxied https settings.now at read.now reply.now result.items }
 {
-    match noted(alloc, proxied, settings, at, read, reply) {
+    match noted(alloc, proxied, https, settings, at, read, reply) {
         Ok(note) => note,
         Err(_) => Vec::new(alloc),
     }
@@ -35,16 +36,17 @@ pub(crate) fn note_on(
 fn noted(
     alloc: Global,
     proxied: bool,
+    https: bool,
     settings: &Settings,
     at: u32,
     read: &Result<Request, WireFault>,
     reply: &[u8],
 ) -> Result<Vec<u8>, AllocError>
-    ensures { IfOk result (λ note. NotesRead proxied settings.now at read.now reply.now
+    ensures { IfOk result (λ note. NotesRead proxied https settings.now at read.now reply.now
         note.items) }
 {
     match read {
-        Ok(request) => note_in(alloc, proxied, settings, at, request, reply),
+        Ok(request) => note_in(alloc, proxied, https, settings, at, request, reply),
         Err(_) => {
             let nothing = Note {
                 forwarded: &[],
@@ -61,15 +63,16 @@ fn noted(
 fn note_in(
     alloc: Global,
     proxied: bool,
+    https: bool,
     settings: &Settings,
     at: u32,
     request: &Request,
     reply: &[u8],
 ) -> Result<Vec<u8>, AllocError>
-    ensures { IfOk result (λ note. NotesRead proxied settings.now at (Ok request.now) reply.now
+    ensures { IfOk result (λ note. NotesRead proxied https settings.now at (Ok request.now) reply.now
         note.items) }
 {
-    let person = person_in(alloc, settings, at, request)?;
+    let person = person_in(alloc, https, settings, at, request)?;
     let note = Note {
         forwarded: forwarded_in(proxied, request.head.as_slice()),
         person: bytes_of(&person),
@@ -90,7 +93,7 @@ fn bytes_of(text: &Option<Text>) -> &[u8]
 }
 
 /// Where a message comes from, if a proxy stands in front and tells.
-fn forwarded_in(proxied: bool, head: &[u8]) -> &[u8]
+pub(crate) fn forwarded_in(proxied: bool, head: &[u8]) -> &[u8]
     ensures { (h : RequestHead) → StartsWith head.now h []
         → result.now ≡ form.forwarded_in proxied h }
 {
@@ -106,16 +109,17 @@ fn forwarded_in(proxied: bool, head: &[u8]) -> &[u8]
 /// Whose cookie or token a message has at a minute.
 fn person_in(
     alloc: Global,
+    https: bool,
     settings: &Settings,
     at: u32,
     request: &Request,
 ) -> Result<Option<Text>, AllocError>
     ensures { (h : RequestHead) → StartsWith request.now.head h []
         → IfOk result (λ person. unwrap_or person []
-        ≡ form.person_in settings.now at request.now.message (values_in h)) }
+        ≡ form.person_in https settings.now at request.now.message (values_in h)) }
 {
     if is_page_place(request.message.target.as_slice()) {
-        caller_of(alloc, settings, at, request)
+        caller_of(alloc, settings, https, at, request)
     } else {
         person_of(alloc, settings, &request.message.token)
     }

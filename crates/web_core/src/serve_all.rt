@@ -32,7 +32,7 @@ pub fn serve_web<H: Host, S: Backend, C: System>(
     places: usize,
     most: u64,
 ) -> Result<Ending, AllocError>
-    ensures ran { IfOk result (λ ending. RunsSome (settings_of S.Store desk.old.desk)
+    ensures ran { IfOk result (λ ending. RunsSome desk.old.https (settings_of S.Store desk.old.desk)
         (tables_of S.Store desk.old.desk) (tables_of S.Store desk.new.desk)) }
     ensures served { IfOk result (λ ending. IsServed StatesByRules (web.Steps S.Store C.made C.told)
         (web.shuts S.Store) (H.told host.old) (H.told host.new) (H.calls host.old) (H.calls host.new)

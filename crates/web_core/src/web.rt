@@ -6,9 +6,12 @@ ghost use Rattle.service_core.specs.Seen.{settings_of, tables_of};
 ghost use Rattle.web_core.specs.Control.{IsTold, control_by as asked_by};
 ghost use Rattle.web_core.specs.Messages.{IsRepliedOn, IsTakenAs, TellsExpecting};
 
-use crate::control::{Control, control_by, copy_if, copy_reply, stop_reply, stops_then};
+use crate::control::{
+    Control, barred_reply, control_by, copy_if, copy_reply, stop_reply, stops_then,
+};
 use crate::date::with_date;
 use crate::desk::WebDesk;
+use crate::guessing::{bars, guessing_address, is_wrong, note_guess};
 use crate::note::note_on;
 use crate::shut::is_seen_shut;
 use crate::system::System;
@@ -30,9 +33,11 @@ use wire_core::Routes;
 fn answer_to<S: Backend>(
     alloc: Global,
     routes: Option<&Routes>,
+    https: bool,
     minute: u32,
     _message: &[u8],
     expects: bool,
+    _barred: bool,
     read: &Result<Request, WireFault>,
     control: Control,
     copied: bool,
@@ -40,8 +45,8 @@ fn answer_to<S: Backend>(
 ) -> Reply
     requires expects { TellsExpecting _message.now expects }
     requires read { read.now ≢ Err WireFault.NoMemory → IsTakenAs _message.now read.now }
-    requires control { control ≡ asked_by expects (settings_of S.Store desk.old) read.now }
-    ensures step { IsRepliedOn (settings_of S.Store desk.old) (minute, _message.now)
+    requires control { control ≡ asked_by expects _barred (settings_of S.Store desk.old) read.now }
+    ensures step { IsRepliedOn https (settings_of S.Store desk.old) (minute, _message.now)
         (bytes_of result) (tables_of S.Store desk.old) (tables_of S.Store desk.new) }
     ensures told { IsTold control copied (bytes_of result) }
     ensures left { LeavesDesk S.Store desk.old desk.new }
@@ -50,10 +55,11 @@ fn answer_to<S: Backend>(
         return Reply::Fixed(expectation_failed());
     }
     match control {
-        Control::Nothing => match answer_sent(alloc, routes, read, minute, desk) {
+        Control::Nothing => match answer_sent(alloc, routes, https, read, minute, desk) {
             Ok(reply) => Reply::Made(reply),
             Err(_) => Reply::Fixed(unavailable_reply(false)),
         },
+        Control::Bar => Reply::Fixed(barred_reply()),
         Control::Stop => Reply::Fixed(stop_reply()),
         Control::Copy => Reply::Fixed(copy_reply(copied)),
     }
@@ -88,15 +94,19 @@ impl<S: Backend, C: System> server_core::Desk for WebDesk<S, C> {
     fn step(&mut self, alloc: Global, minute: u32, message: &[u8]) -> Answer {
         let expects = is_expecting(message);
         let read = taken(alloc, message);
-        let control = control_by(expects, self.desk.settings(), &read);
+        let from = guessing_address(alloc, self.proxied, &read);
+        let barred = bars(&self.guesses, &from, minute);
+        let control = control_by(expects, barred, self.desk.settings(), &read);
         let copied = copy_if(control, &mut self.system);
         let routes = self.routes.as_ref();
         let whole = answer_to(
             alloc,
             routes,
+            self.https,
             minute,
             message,
             expects,
+            barred,
             &read,
             control,
             copied,
@@ -105,13 +115,18 @@ impl<S: Backend, C: System> server_core::Desk for WebDesk<S, C> {
         let note = note_on(
             alloc,
             self.proxied,
+            self.https,
             self.desk.settings(),
             minute,
             &read,
             whole.bytes(),
         );
+        let asks = from.is_some() && !barred;
+        let wrong = is_wrong(alloc, asks, self.https, self.desk.settings(), minute, &read);
+        note_guess(alloc, &mut self.guesses, &from, barred, wrong, minute);
         let reply = with_date(alloc, self.system.second(), whole);
         drop(read);
+        drop(from);
         self.stops = stops_then(self.stops, control);
         self.is_shut = is_seen_shut(&mut self.desk);
         Answer { reply, note }

@@ -7,5 +7,5 @@ use Rattle.browser_core.proofs.cookie.known_in.Goals as goal
 pub loop-line-preserved : goal.loop-line-preserved
 loop-line-preserved c =
     let within : c.loop-line.line-index < length c.args.lines.now = omega arith in
-    line_first (known_of c.loop-line.known) (known_of c.with_line-known.result) c.args.lines.now
+    line_first c.args.name.now (known_of c.loop-line.known) (known_of c.with_line-known.result) c.args.lines.now
     c.loop-line.line-index _ _ within c.with_line-known.ensures c.loop-line.invariant

@@ -7,6 +7,6 @@ use Rattle.browser_core.proofs.cookie.known_in.Given as goal
 
 abbrev pub invariant-loop-line : goal.invariant-loop-line
 invariant-loop-line l =
-    with_all (known_of l.known) (flat_map (λ line. values_of (pieces line))
+    with_all (known_of l.known) (flat_map (λ line. values_of l.name (pieces line))
     (map (λ v. v.now) (drop l.line-index l.lines)))
-    ≡ with_all Nothing (flat_map (λ line. values_of (pieces line)) (map (λ v. v.now) l.lines))
+    ≡ with_all Nothing (flat_map (λ line. values_of l.name (pieces line)) (map (λ v. v.now) l.lines))

@@ -14,7 +14,7 @@ loop-left-smaller c =
 
 pub loop-left-preserved : goal.loop-left-preserved
 loop-left-preserved c =
-    piece_first (known_of c.loop-left.known) (known_of c.with_piece-known.result) c.in-Some.rest.now
+    piece_first c.args.name.now (known_of c.loop-left.known) (known_of c.with_piece-known.result) c.in-Some.rest.now
     c.trimmed.result.now (option_map (λ r. r.now) c.loop-left.left)
     (option_map (λ r. r.now) c.cut.result.1) _ (ap (option_map (λ r. r.now)) c.in-Some.is)
     (c.trimmed.ensures ∙ ap trimmed c.cut.ensures.before) c.with_piece-known.ensures c.cut.ensures.after c.loop-left.invariant

@@ -10,8 +10,8 @@ use Rattle.browser_core.proofs.cookie.with_line.Given as goal
 abbrev pub invariant-loop-left : goal.invariant-loop-left
 invariant-loop-left l =
     with_all (known_of l.known)
-    (values_of (map trimmed (parts_in 59 (option_map (λ r. r.now) l.left))))
-    ≡ with_all (known_of l.before) (values_of (pieces l.line))
+    (values_of l.name (map trimmed (parts_in 59 (option_map (λ r. r.now) l.left))))
+    ≡ with_all (known_of l.before) (values_of l.name (pieces l.line))
 
 abbrev pub decreases-loop-left : goal.decreases-loop-left
 decreases-loop-left l = size (option_map (λ r. r.now) l.left)

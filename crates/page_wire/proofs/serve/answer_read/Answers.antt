@@ -7,7 +7,7 @@ use Rattle.page_wire.proofs.serve.answer_read.Goals as goal
 
 pub returns-then-asks_health-clause-reply : goal.returns-then-asks_health-clause-reply
 returns-then-asks_health-clause-reply g c =
-    health_told (settings_of g.S.Store c.args.desk.now) c.args.moment c.args.request.now
+    health_told c.args.https (settings_of g.S.Store c.args.desk.now) c.args.moment c.args.request.now
     c.is_head.result c.answer_health.result (tables_of g.S.Store c.args.desk.now)
     (tables_of g.S.Store c.answer_health.new.desk)
     (sym c.asks_health.ensures ∙ c.if-asks_health.true) c.is_head.ensures
@@ -15,7 +15,7 @@ returns-then-asks_health-clause-reply g c =
 
 pub returns-then-is_page_place-clause-reply : goal.returns-then-is_page_place-clause-reply
 returns-then-is_page_place-clause-reply g c =
-    on_pages (settings_of g.S.Store c.args.desk.now) c.args.moment
+    on_pages c.args.https (settings_of g.S.Store c.args.desk.now) c.args.moment
     c.args.request.now c.answer_in_room.result (tables_of g.S.Store c.args.desk.now)
     (tables_of g.S.Store c.answer_in_room.new.desk)
     (sym c.asks_health.ensures ∙ c.if-asks_health.false)
@@ -25,7 +25,7 @@ returns-then-is_page_place-clause-reply g c =
 
 pub returns-else-is_page_place-clause-reply : goal.returns-else-is_page_place-clause-reply
 returns-else-is_page_place-clause-reply g c =
-    elsewhere (settings_of g.S.Store c.args.desk.now) c.args.moment
+    elsewhere c.args.https (settings_of g.S.Store c.args.desk.now) c.args.moment
     c.args.request.now c.answer_request.result (tables_of g.S.Store c.args.desk.now)
     (tables_of g.S.Store c.answer_request.new.desk)
     (sym c.asks_health.ensures ∙ c.if-asks_health.false)

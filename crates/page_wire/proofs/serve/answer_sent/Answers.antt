@@ -8,5 +8,5 @@ returns-in-Ok-clause-reply g c = rw c.in-Ok.is c.answer_read.ensures.reply
 
 pub returns-in-Err-clause-reply : goal.returns-in-Err-clause-reply
 returns-in-Err-clause-reply g c =
-    rw c.in-Err.is (fault_told (settings_of g.S.Store c.args.desk.now) c.args.moment c.in-Err.fault
+    rw c.in-Err.is (fault_told c.args.https (settings_of g.S.Store c.args.desk.now) c.args.moment c.in-Err.fault
     c.answer_fault.result (tables_of g.S.Store c.args.desk.now) c.answer_fault.ensures)

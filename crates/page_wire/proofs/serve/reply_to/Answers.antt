@@ -15,10 +15,10 @@ returns-in-Ok-clause-ok g c =
     (settings_of g.S.Store c.args.desk.now) c.args.at h c.in-Ok.visit
     c.tell_visit-made.new.room.items (tables_of g.S.Store c.args.desk.now)
     (tables_of g.S.Store c.tell_visit-made.new.desk))) c.is_head.ensures c.tell_visit-made.ensures.ok in
-    visited (settings_of g.S.Store c.args.desk.now) c.args.at c.args.request.now c.in-Ok.visit
+    visited c.args.https (settings_of g.S.Store c.args.desk.now) c.args.at c.args.request.now c.in-Ok.visit
     c.tell_visit-made.result c.tell_visit-made.new.room.items
     (tables_of g.S.Store c.args.desk.now) (tables_of g.S.Store c.tell_visit-made.new.desk)
     (λ head starts.
-    subst (λ (s : Settings). visit_of s c.args.at c.args.request.now.message (values_in head)
+    subst (λ (s : Settings). visit_of c.args.https s c.args.at c.args.request.now.message (values_in head)
     ≡ Ok c.in-Ok.visit) c.settings.ensures (c.in-Ok.ensures.ok head starts))
     steps

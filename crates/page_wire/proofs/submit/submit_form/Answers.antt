@@ -12,11 +12,11 @@ returns-in-Ok-None-clause-ok g c =
     let at = c.args.moment in
     let caller = c.args.caller.now in
     let sent = c.args.sent.now in
-    form_begun s at caller c.args.command.now sent c.submit_both.result c.submit_both.new.room.items
-    (tables_of g.S.Store c.args.desk.now) (tables_of g.S.Store c.submit_both.new.desk)
+    form_begun s at caller c.args.command.now sent c.submit_once.result c.submit_once.new.room.items
+    (tables_of g.S.Store c.args.desk.now) (tables_of g.S.Store c.submit_once.new.desk)
     (sym c.in-Ok-None.field-0-is ∙ c.in-Ok-None.ensures
     ∙ ap (λ (u : Settings). refused_before u at caller sent) c.settings.ensures)
-    c.submit_both.ensures.ok
+    c.submit_once.ensures.ok
 
 pub returns-in-Ok-Some-clause-ok : goal.returns-in-Ok-Some-clause-ok
 returns-in-Ok-Some-clause-ok g c =

@@ -50,13 +50,14 @@ pub returns-in-Resumed-Some-clause-ok : goal.returns-in-Resumed-Some-clause-ok
 returns-in-Resumed-Some-clause-ok g c =
     let s = settings_of g.S.Store c.args.desk.now in
     let caller = c.as_str-in-Resumed-Some.result.now in
+    let https = c.in-Resumed-Some.https in
     let cookie = c.in-Resumed-Some.cookie in
     let keep = c.in-Resumed-Some.keep in
     let sent = c.in-Resumed-Some.sent in
     let visit =
     c.in-Resumed-Some.is-0
-    ∙ ap (λ n. Resumed n cookie keep sent) (sym c.as_str-in-Resumed-Some.ensures) in
-    told_visit s c.args.at c.args.visit.now (λ n. resumed_reply caller n cookie keep sent)
+    ∙ ap (λ n. Resumed https n cookie keep sent) (sym c.as_str-in-Resumed-Some.ensures) in
+    told_visit s c.args.at c.args.visit.now (λ n. resumed_reply https caller n cookie keep sent)
     c.in-Resumed-Some.moment c.resumed_reply-made.result c.put-in-Resumed-Some.result
     c.put-in-Resumed-Some.new.room (tables_of g.S.Store c.args.desk.now)
     (λ desk bytes told. subst (λ (v : PageRequest). PageRequestSteps s c.args.at v desk bytes desk)

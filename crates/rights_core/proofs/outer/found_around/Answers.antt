@@ -14,8 +14,8 @@ loop-next-init c =
     ∙ ap (λ n. replicate n false) c.requires.size in
     let P : List ℕ → Type 0 =
     λ places. Marks c.args.groups.now places (names_at c.args.groups.now c.new-found.result.items)
-    (marked_in turn c.args.marks.now) (names_at c.args.groups.now c.mark.new.found.items)
-    (marked_in turn c.mark.new.marks) in
+    (marked_in turn c.args.marks.now) (names_at c.args.groups.now c.visit.new.found.items)
+    (marked_in turn c.visit.new.marks) in
     record {
       search =
           search_start
@@ -23,16 +23,16 @@ loop-next-init c =
           c.args.listers.now
           c.args.person.now
           (names_at c.args.groups.now c.new-found.result.items)
-          (names_at c.args.groups.now c.mark.new.found.items)
+          (names_at c.args.groups.now c.visit.new.found.items)
           (marked_in turn c.args.marks.now)
-          (marked_in turn c.mark.new.marks)
+          (marked_in turn c.visit.new.marks)
           c.requires.listers
           (ap (names_at c.args.groups.now) c.new-found.ensures.items)
           clear
-          (subst P c.listed.ensures c.in_ok-mark.ensures.marked);
-      within = c.in_ok-mark.ensures.within (none_within c.args.groups.now _ c.new-found.ensures.items);
-      size = c.in_ok-mark.ensures.size;
-      before = c.in_ok-mark.ensures.before (λ k. omega (arith, c.requires.before k));
+          (subst P c.listed.ensures c.in_ok-visit.ensures.marked);
+      within = c.in_ok-visit.ensures.within (none_within c.args.groups.now _ c.new-found.ensures.items);
+      size = c.in_ok-visit.ensures.size;
+      before = c.in_ok-visit.ensures.before (λ k. omega (arith, c.requires.before k));
     }
 
 pub loop-next-preserved : goal.loop-next-preserved
@@ -51,8 +51,8 @@ loop-next-preserved c =
     ∙ sym (get_or-map (name_at groups) found next 0 [] within) in
     let P : List ℕ → Type 0 =
     λ places. Marks groups places names (marked_in turn c.loop-next.marks)
-    (names_at groups c.mark-in-loop-next.new.found.items)
-    (marked_in turn c.mark-in-loop-next.new.marks) in
+    (names_at groups c.visit-in-loop-next.new.found.items)
+    (marked_in turn c.visit-in-loop-next.new.marks) in
     record {
       search =
           search_more
@@ -61,17 +61,17 @@ loop-next-preserved c =
           c.args.person.now
           next
           names
-          (names_at groups c.mark-in-loop-next.new.found.items)
+          (names_at groups c.visit-in-loop-next.new.found.items)
           (marked_in turn c.loop-next.marks)
-          (marked_in turn c.mark-in-loop-next.new.marks)
+          (marked_in turn c.visit-in-loop-next.new.marks)
           c.requires.listers
           c.loop-next.invariant.search
           inside
           (subst P (c.listed-places.ensures ∙ ap (places_under kept) here)
-          c.in_ok-mark-2.ensures.marked);
-      within = c.in_ok-mark-2.ensures.within c.loop-next.invariant.within;
-      size = c.in_ok-mark-2.ensures.size;
-      before = c.in_ok-mark-2.ensures.before c.loop-next.invariant.before;
+          c.in_ok-visit-2.ensures.marked);
+      within = c.in_ok-visit-2.ensures.within c.loop-next.invariant.within;
+      size = c.in_ok-visit-2.ensures.size;
+      before = c.in_ok-visit-2.ensures.before c.loop-next.invariant.before;
     }
 
 pub returns-clause-found : goal.returns-clause-found

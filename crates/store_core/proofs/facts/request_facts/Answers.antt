@@ -6,7 +6,7 @@ use Rattle.store_core.proofs.facts.request_facts.Goals as goal
 pub returns : goal.returns
 returns g c =
     giving (λ d it desk of.
-    c.filed.ensures
+    c.build_request_facts.ensures
     ∙ request_alone desk c.args.id _ _ _ (c.from.ensures ∙ c.new.ensures.items) (it.0 desk of)
     (it.1 desk of))
     (then c.in_ok-request.ensures c.in_ok-queue.ensures)

@@ -6,7 +6,7 @@ use Rattle.store_core.proofs.facts.request_facts_with_stays.Goals as goal
 pub returns : goal.returns
 returns g c =
     giving (λ d it desk of.
-    c.filed.ensures ∙ request_facts desk c.args.id _ _ _ (it.0.0 desk of)
+    c.build_request_facts.ensures ∙ request_facts desk c.args.id _ _ _ (it.0.0 desk of)
     (rw c.is_some.ensures at (it.0.1 desk of)) (it.1 desk of))
     (then (then c.in_ok-request.ensures c.in_ok-stays.ensures) c.in_ok-queue.ensures)
 

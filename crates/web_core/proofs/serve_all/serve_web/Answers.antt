@@ -8,7 +8,7 @@ use Rattle.web_core.proofs.serve_all.serve_web.Goals as goal
 
 pub returns-clause-ran : goal.returns-clause-ran
 returns-clause-ran g c =
-    served_messages (λ d. settings_of g.S.Store d.desk) (λ d. tables_of g.S.Store d.desk)
+    served_messages (λ d. d.https) (λ d. settings_of g.S.Store d.desk) (λ d. tables_of g.S.Store d.desk)
     StatesByRules (IsTaken g.S.Store g.C.System.made g.C.System.told) (shuts g.S.Store)
     (g.H.Host.told c.args.host.now) (g.H.Host.told c.serve.new.host)
     (g.H.Host.calls c.args.host.now) (g.H.Host.calls c.serve.new.host)

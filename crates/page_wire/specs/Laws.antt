@@ -1,0 +1,41 @@
+-- What holds of all pages: whatever is looked at stays, and another site changes nothing and learns
+-- nothing.
+use Rattle.std.specs.Prelude.{◌≡◌, ℕ, Bool, false, if◌then◌else◌, List, []}
+use Rattle.std.specs.Prelude.{Option, Some, None}
+use Rattle.httparse.specs.Grammar.{RequestHead}
+use Rattle.settings_core.specs.declared.settings.Settings.{Settings}
+use Rattle.desk_model.specs.Desk.{Desk}
+use Rattle.desk_forms.specs.declared.paths.Method.TheVariants.{Get, Post}
+use Rattle.message_core.specs.Head.{StartsWith}
+use Rattle.message_core.specs.Request.{values_in}
+use Rattle.message_core.specs.declared.request.Request.{Request}
+use Rattle.page_routes.specs.Places.{method_named, place_at, takes_post}
+use Rattle.page_routes.specs.Visits.{is_own}
+use Rattle.page_routes.specs.declared.fault.PageFault.{PageFault}
+use Rattle.page_routes.specs.declared.fault.PageFault.TheVariants.{NoRoute, BadMethod, OtherSite}
+use Rattle.page_routes.specs.declared.place.Place.{Place}
+use Rattle.wire_core.specs.Replies.{is_head}
+use Rattle.page_wire.specs.Faults.{fault_reply}
+use Rattle.page_wire.specs.Steps.{RequestPageSteps, Tells}
+
+-- whatever GET and HEAD ask of the pages, the desk stays
+abbrev pub LooksLeave : Type 0
+LooksLeave = (https : Bool) (settings : Settings) (at : ℕ) (request : Request) (head : RequestHead)
+    (old new : Desk) (bytes : List ℕ) → StartsWith request.head head []
+    → method_named request.message.method ≡ Some Get
+    → RequestPageSteps https settings at request old bytes new → new ≡ old
+
+-- what is told of a post that comes from another site
+abbrev pub fault_elsewhere : Option Place → PageFault
+fault_elsewhere None = NoRoute
+fault_elsewhere (Some place) = if takes_post place then OtherSite else BadMethod false
+
+-- a post that comes from another site leaves the desk, and its reply goes by its place alone: it is the
+-- same whatever cookie and whatever fields it has
+abbrev pub OtherSitesLeave : Type 0
+OtherSitesLeave = (https : Bool) (settings : Settings) (at : ℕ) (request : Request)
+    (head : RequestHead) (old new : Desk) (bytes : List ℕ) → StartsWith request.head head []
+    → method_named request.message.method ≡ Some Post → is_own (values_in head) ≡ false
+    → RequestPageSteps https settings at request old bytes new
+    → Tells (fault_reply (is_head request.message)
+    (fault_elsewhere (place_at request.message.target))) old bytes new

@@ -1,0 +1,13 @@
+//! What holds of all pages: the contracts of functions that do nothing.
+ghost use Rattle.page_wire.specs.Laws.{LooksLeave, OtherSitesLeave};
+
+/// Whatever GET and HEAD ask of the pages, the desk stays.
+pub fn look_law()
+    ensures { LooksLeave }
+{}
+
+/// A post that comes from another site leaves the desk, and its reply is the same whatever cookie and
+/// whatever fields it has.
+pub fn other_site_law()
+    ensures { OtherSitesLeave }
+{}
