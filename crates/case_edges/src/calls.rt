@@ -21,7 +21,8 @@ use wire_core::{ServeFault, serve_one};
 /// What comes of a command.
 pub(crate) type Outcome = Result<Answer, Refusal>;
 
-pub(crate) fn read_settings(alloc: Global, text: &str) -> Result<Settings, SettingsFault> {
+/// Reads settings.
+pub fn read_settings(alloc: Global, text: &str) -> Result<Settings, SettingsFault> {
     Settings::read(alloc, text.as_bytes())
 }
 
@@ -29,10 +30,8 @@ pub(crate) fn take<R: Read>(alloc: Global, reader: &mut R) -> Result<Vec<u8>, In
     take_settings(alloc, reader)
 }
 
-pub(crate) fn make_tables<S: Backend>(
-    alloc: Global,
-    store: &mut Store<S>,
-) -> Result<(), StoreFault> {
+/// Makes the tables that are missing.
+pub fn make_tables<S: Backend>(alloc: Global, store: &mut Store<S>) -> Result<(), StoreFault> {
     store.create_schema(alloc)
 }
 
@@ -40,7 +39,8 @@ pub(crate) fn version<S: Backend>(store: &mut Store<S>) -> Result<u32, StoreFaul
     store.version()
 }
 
-pub(crate) fn attach<S: Backend>(
+/// Attaches settings to tables; else the fault, and the tables.
+pub fn attach<S: Backend>(
     alloc: Global,
     store: Store<S>,
     settings: Settings,

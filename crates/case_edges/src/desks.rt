@@ -19,16 +19,16 @@ const COMMANDS: &str = "%%\n";
 
 /// The tables, settings and commands that a desk begins with.
 #[derive(Clone, Copy)]
-pub(crate) struct Before<'b> {
-    pub(crate) tables: &'b str,
-    pub(crate) settings: &'b str,
-    pub(crate) commands: &'b str,
+pub struct Before<'b> {
+    pub tables: &'b str,
+    pub settings: &'b str,
+    pub commands: &'b str,
 }
 
 impl<'b> Before<'b> {
     /// What a case says of them in its parts `tables` and in that one, which is written as a script
     /// is.
-    pub(crate) fn of(case: &'b Case<'_>, part: &str) -> Result<Before<'b>, Failure> {
+    pub fn of(case: &'b Case<'_>, part: &str) -> Result<Before<'b>, Failure> {
         let halves = case.text(part).split_once(COMMANDS);
         let (settings, commands) = halves.ok_or(Failure::BadLine)?;
         Ok(Before {
@@ -104,7 +104,7 @@ pub(crate) fn outcome<S: Backend>(
 }
 
 /// Asks the commands of a desk, whatever comes of them.
-pub(crate) fn do_first<S: Backend>(
+pub fn do_first<S: Backend>(
     alloc: Global,
     commands: &str,
     desk: &mut Desk<S>,

@@ -9,7 +9,7 @@ use std::alloc::{AllocError, Global};
 use store_core::{Backend, Store};
 
 /// What is done on a connection to files.
-pub(crate) trait Visit {
+pub trait Visit {
     /// Does it, and gives the connection back.
     fn on<S: Backend>(&mut self, alloc: Global, conn: Connection<S>) -> Connection<S>;
 }
@@ -42,7 +42,7 @@ impl Visit for Schema {
 }
 
 /// Opens the files, where they can be opened: what they are left with after the visit.
-pub(crate) fn visit_files<S: Backend + Drop, O: Opening<Connection<S>>, V: Visit>(
+pub fn visit_files<S: Backend + Drop, O: Opening<Connection<S>>, V: Visit>(
     alloc: Global,
     opening: &O,
     start: Start<'_>,

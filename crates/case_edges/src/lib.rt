@@ -31,12 +31,18 @@ mod trials;
 mod words;
 mod written;
 
-pub use failure::Failure;
-
+pub use calls::{attach, make_tables, read_settings};
 use case_disk::Opening;
 use case_text::Case;
+pub use desks::{Before, do_first};
+pub use disks::{Visit, visit_files};
+pub use failure::Failure;
+pub use messages::sent_in;
+pub use reads::requests;
+pub use served::Sent;
 use sqlite::Connection;
 use std::alloc::Global;
+pub use stops::Stop;
 use store_core::Backend;
 
 /// The parts that tell of which kind a case is; the first of them that it has does.

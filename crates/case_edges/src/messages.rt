@@ -43,7 +43,7 @@ pub(crate) fn run_case<S: Backend + Drop, O: Opening<Connection<S>>>(
 }
 
 /// The messages of a case.
-fn sent_in(alloc: Global, named: &[Named], messages: &str) -> Result<Vec<Sent>, Failure> {
+pub fn sent_in(alloc: Global, named: &[Named], messages: &str) -> Result<Vec<Sent>, Failure> {
     let mut sent = Vec::new(alloc);
     let messages = messages.strip_prefix(BEGIN).ok_or(Failure::BadLine)?;
     for message in messages.strip_suffix("\n").unwrap_or(messages).split(NEXT) {

@@ -15,7 +15,8 @@ pub(crate) fn queues<S: Backend>(
     store.queues(alloc)
 }
 
-pub(crate) fn requests<S: Backend>(
+/// The requests of the tables.
+pub fn requests<S: Backend>(
     alloc: Global,
     store: &mut Store<S>,
 ) -> Result<Vec<RequestRow>, StoreFault> {

@@ -12,7 +12,7 @@ use store_core::Backend;
 use wire_core::ServeFault;
 
 /// A message at its moment.
-pub(crate) type Sent = (u32, Vec<u8>);
+pub type Sent = (u32, Vec<u8>);
 
 /// What stands after all replies, where they are followed by what is left of each message.
 pub(crate) const LEFT: &str = "left:";

@@ -14,13 +14,13 @@ const MOST: u64 = 1_000;
 
 /// Where a disk stops, and what it leaves.
 #[derive(Clone, Copy)]
-pub(crate) struct Stop {
+pub struct Stop {
     /// The log's disk stops, or else that of the database file.
-    pub(crate) is_log: bool,
+    pub is_log: bool,
     /// What wasn't synced is lost, or else the bytes stay as they stand.
-    pub(crate) loses: bool,
+    pub loses: bool,
     /// The commands are loaded, or else asked one by one.
-    pub(crate) loads: bool,
+    pub loads: bool,
 }
 
 /// Stops a disk at its first call, at its second, and so on, until a run meets no stop. Each time
@@ -84,8 +84,22 @@ fn stopped<S: Backend + Drop, O: Opening<Connection<S>>>(
 }
 
 impl Stop {
+    /// The stop that these words name: `log_stops` or `tables_stop`, then `lost` or `left`, and
+    /// `loaded` or nothing.
+    pub fn of(trial: &str, rest: &str) -> Result<Stop, Failure> {
+        let (after, how) = rest.split_once(' ').unwrap_or((rest, ""));
+        if trial != "log_stops" && trial != "tables_stop" {
+            return Err(Failure::BadLine);
+        }
+        Ok(Stop {
+            is_log: trial == "log_stops",
+            loses: after == "lost",
+            loads: how == "loaded",
+        })
+    }
+
     /// Files with these tables, one of which stops after so many calls.
-    fn start(self, tables: &[u8], calls: u64) -> Start<'_> {
+    pub fn start(self, tables: &[u8], calls: u64) -> Start<'_> {
         let start = Start::holding(tables);
         if self.is_log {
             Start {
@@ -101,7 +115,7 @@ impl Stop {
     }
 
     /// The files as they are found after the stop.
-    fn found(self, files: &CaseFiles) -> Start<'_> {
+    pub fn found(self, files: &CaseFiles) -> Start<'_> {
         if self.loses {
             files.after_crash()
         } else {

@@ -80,19 +80,6 @@ fn try_streams<S: Backend + Drop, O: Opening<Connection<S>>>(
         "write_fails" => written::run(alloc, out, opening, course, rest, true),
         "write_stops" => written::run(alloc, out, opening, course, rest, false),
         "opened" => spoiled::run(alloc, out, opening, course, rest),
-        _ => stops::run(alloc, out, opening, course, stop_of(trial, rest)?),
+        _ => stops::run(alloc, out, opening, course, Stop::of(trial, rest)?),
     }
-}
-
-/// The stop that these words name.
-fn stop_of(trial: &str, rest: &str) -> Result<Stop, Failure> {
-    let (after, how) = rest.split_once(' ').unwrap_or((rest, ""));
-    if trial != "log_stops" && trial != "tables_stop" {
-        return Err(Failure::BadLine);
-    }
-    Ok(Stop {
-        is_log: trial == "log_stops",
-        loses: after == "lost",
-        loads: how == "loaded",
-    })
 }
