@@ -25,7 +25,9 @@ struct Server<'s> {
 /// trials of `case_edges` do: over tables whose disk stops at its first call, at its second, and so
 /// on, until all messages are answered. Then the files are opened again. They are to hold the
 /// requests that were told to be filed, or one more; else it is wrong. A line is written wherever
-/// what comes of the server isn't what came of the one before.
+/// what comes of the server isn't what came of the one before: a write that fails, as on a full
+/// disk, leaves the store open, and the server goes on; a sync that fails shuts it, and the server
+/// ends, unless that was the last message that it was to answer.
 pub fn run_case<S: Backend + Drop, O: Opening<Connection<S>>>(
     alloc: Global,
     out: &mut String,
