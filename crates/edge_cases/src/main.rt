@@ -6,19 +6,18 @@
 #![tactic(auto)]
 
 use case_disk::{Opening, OverTables, over_disks};
-use case_edges::Failure;
+use case_edges::{Failure, run_case};
 use case_text::{Answers, Case, try_cases};
 use sqlite::Connection;
 use std::process::ExitCode;
 use store_core::Backend;
 
 /// The kinds, each a folder.
-const KINDS: [&str; 7] = [
+const KINDS: [&str; 6] = [
     "connections",
     "disks",
     "limits",
     "loads",
-    "servers",
     "streams",
     "words",
 ];
@@ -60,10 +59,6 @@ struct Trying<'t, 'c> {
 
 impl OverTables for Trying<'_, '_> {
     fn over<S: Backend + Drop, O: Opening<Connection<S>>>(&mut self, opening: &O) {
-        self.tried = if self.case.part("server").is_some() {
-            case_servers::run_case(self.rt.alloc(), self.out, opening, self.case)
-        } else {
-            case_edges::run_case(self.rt, self.out, opening, self.case)
-        };
+        self.tried = run_case(self.rt, self.out, opening, self.case);
     }
 }
