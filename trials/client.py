@@ -1,6 +1,7 @@
 """What the trials of servers share: a client that sends messages and takes replies apart."""
 import contextlib
 import os
+import re
 import select
 import socket
 import sys
@@ -12,6 +13,8 @@ sys.path.append(os.path.join(TOP, "models"))
 import sessions
 
 TOKEN = "bob-token-0000000"
+# the line Date, which each reply has as its second
+DATE = re.compile(rb"\A(HTTP/1\.1 [^\r\n]*\r\n)Date: ([^\r\n]*)\r\n")
 
 
 def cookie_of(token, person, began=None, lasts=sessions.DAY):

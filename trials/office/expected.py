@@ -39,6 +39,8 @@ def by_form(desk, ask):
     filed = done = None
     try:
         refuse_beforehand(ask)
+        if was_sent(desk, ask):
+            return 303, f"/desk/requests/{ask.words[0]}#reply"
         for name, words in commands(ask, len(desk.requests) + 1):
             answer = desk.ask(ask.at, ask.by, name, words)
             filed, done = (answer, True) if name == "create" else (filed, True)
@@ -46,6 +48,22 @@ def by_form(desk, ask):
         return pages.code_of(refusal), refusal_facts(ask, refusal, filed, done)
     number = filed if ask.name == "create" else None if ask.name == "queue" else ask.words[0]
     return 303, f"/desk/requests/{number}#reply" if number is not None else "/"
+
+
+def was_sent(desk, ask):
+    """Whether a reply or a comment says what the same person said there in the last ten minutes, and the
+    request has the status that was chosen: it isn't sent twice."""
+    kind = {"correspond": "reply", "comment": "comment"}.get(ask.name)
+    if kind is None:
+        return False
+    number, text = words_of(ask)
+    try:
+        told = desk.ask(ask.at, ask.by, "history", [number])
+    except Refused:
+        return False
+    has_moved = not ask.then or desk.request_of(number).status == ask.then
+    return has_moved and any((it.kind, it.actor, it.body) == (kind, ask.by, text) and ask.at - it.moment <= 10
+                             for it in told)
 
 
 def refuse_beforehand(ask):

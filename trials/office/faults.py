@@ -46,7 +46,7 @@ def settle(trial, asks, answers, how):
     trial.figures.faults[f"{how}: answered"] += sum(it is not None and not is_unavailable(it) for it in answers)
     for ask, answer in zip(asks, answers):
         if answer is not None:
-            trial.figures.answers[ask.way, ask.name, outcome(answer)] += 1
+            trial.figures.counted(ask, outcome(answer))
 
 
 def end(trial, how):
@@ -221,6 +221,6 @@ def after_kill(trial, asks, printed):
 
 
 def note(trial, ask, told):
-    trial.figures.answers[ask.way, ask.name, outcome(told)] += 1
+    trial.figures.counted(ask, outcome(told))
     if ask.name == "create" and ask.key and number_filed(told):
         trial.numbers[ask.key] = number_filed(told)

@@ -3,11 +3,26 @@ import collections
 import os
 import resource
 import statistics
+from typing import NamedTuple
 
 from rules import REFUSALS
 
 # the ways that a picture has together; all others are pages
 GROUPS = {"http": "the interface", **dict.fromkeys(("shell", "file", "load"), "the programs of the command line")}
+# those in which no program is started for an answer
+SERVED = {"http", "page (a form)", "page (read)"}
+
+
+class Night(NamedTuple):
+    """What stands at a night: memory in KiB, that of the day's servers at most, and of the one that has just
+    started; bytes of the file and its log; seconds of the first page."""
+    at: int
+    requests: int
+    most: int
+    started: int
+    file: int
+    log: int
+    home: float
 
 
 class Figures:
@@ -22,18 +37,22 @@ class Figures:
 
     def answered(self, ask, code, seconds):
         """One answer, its outcome, and how long it took."""
-        self.answers[ask.way, ask.name, code] += 1
+        self.counted(ask, code)
         self.timed(ask.way if ask.way != "page" else "page (a form)" if not ask.reads else "page (read)", ask.at,
                    seconds)
 
+    def counted(self, ask, code):
+        """One answer and its outcome, where no time is told of it."""
+        self.answers[ask.way, ask.name, code] += 1
+        self.asked_by_hour[GROUPS.get(ask.way, "pages"), hour_of(ask.at)] += 1
+
     def timed(self, way, at, seconds):
         self.times[way].append(seconds)
-        hour = at // 60 % 24
-        self.by_hour[hour].append(seconds)
-        self.asked_by_hour[GROUPS.get(way, "pages"), hour] += 1
+        if way in SERVED:
+            self.by_hour[hour_of(at)].append(seconds)
 
-    def night(self, at, requests, memory, file, log, home):
-        self.nights.append((at, requests, memory, file, log, home))
+    def night(self, night):
+        self.nights.append(night)
         self.loads.append(os.getloadavg()[1])
 
     def usual(self):
@@ -51,6 +70,10 @@ class Figures:
         """The count, the middle and the slowest of each way, in milliseconds."""
         for way, times in sorted(self.times.items()):
             yield way, len(times), 1000 * statistics.median(times), 1000 * max(times)
+
+
+def hour_of(at):
+    return at // 60 % 24
 
 
 def processor_minutes():

@@ -35,18 +35,11 @@ def table(head, rows):
 
 
 def kinds(figures):
-    """Each command and reading: how often it was done by each way, and how often it was refused, by the refusals."""
-    done, refused = collections.Counter(), collections.defaultdict(collections.Counter)
-    for (way, name, code), count in figures.answers.items():
-        if code == "done":
-            done[name, way] += count
-        else:
-            refused[name][way] += count
-            refused[name, "by"][code] += count
-    for name in sorted({name for _, name, _ in figures.answers}):
-        cells = [f"{done[name, way]} / {refused[name][way]}" for way in WAYS]
-        told_of = ", ".join(f"{code} {count}" for code, count in sorted(refused[name, "by"].items()))
-        yield f"`{name}`", *("–" if it == "0 / 0" else it for it in cells), told_of or "–"
+    """Each command and reading, and how often it was done and refused."""
+    counts = collections.Counter()
+    for (_, name, code), count in figures.answers.items():
+        counts[name, code == "done"] += count
+    return ", ".join(f"`{name}` {counts[name, True]} / {counts[name, False]}" for name in sorted({it for it, _ in counts}))
 
 
 def seldom(figures):
@@ -65,9 +58,9 @@ def ways(figures):
 def growth(figures):
     """Some ten of the nights, the last among them."""
     step = max(1, len(figures.nights) // 10)
-    for at, requests, memory, file, log, home in figures.nights[::-step][::-1]:
-        yield (day_of(at), requests, f"{memory / 1024:.1f}", f"{file / 2**20:.2f}", f"{log / 2**20:.2f}",
-               f"{1000 * home:.1f}")
+    for it in figures.nights[::-step][::-1]:
+        yield (day_of(it.at), it.requests, f"{it.most / 1024:.1f}", f"{it.started / 1024:.1f}",
+               f"{it.file / 2**20:.2f}", f"{it.log / 2**20:.2f}", f"{1000 * it.home:.1f}")
 
 
 def day_of(at):
@@ -80,7 +73,7 @@ def page(trial, given, seconds):
     return "\n\n".join([
         "# A year of an office",
         f"`trials/year --seed {given.seed} --days {len(figures.nights)} --bench` writes this page. It ran {len(figures.nights)} working "
-        f"days of an office of fifty, from {day_of(figures.nights[0][0])} to {day_of(last[0])} by its own clock, on "
+        f"days of an office of fifty, from {day_of(figures.nights[0].at)} to {day_of(last.at)} by its own clock, on "
         f"{given.build}. What it does stands in [its head](../trials/year), and [words](../docs/words.md) has the words.",
         f"It took {seconds / 60:.1f} minutes on {len(os.sched_getaffinity(0))} processors, beside other work: the load of the "
         f"machine was {min(figures.loads):.1f} to {max(figures.loads):.1f}, in the middle "
@@ -88,14 +81,13 @@ def page(trial, given, seconds):
         f"it, and the programs {others:.1f}.",
         f"{figures.total()} answers were compared with those of [the rules told twice](../models/README.md), and "
         + ", ".join(f"{count} {name}" for name, count in sorted(figures.compared.items()))
-        + f". Nothing differed. At its end there were {last[1]} requests.",
+        + f". Nothing differed. At its end there were {last.requests} requests.",
         "## What was asked", table(("By", "Done", "Refused"), ways(figures)),
-        "Of each kind and way, how often it was done / refused, and by which refusals:",
-        table(("What", *HEADS, "Refused by"), kinds(figures)),
+        f"Of each kind, how often it was done / refused: {kinds(figures)}.",
         "`find` is a search on a page. A form that was answered by a page of its own counts once. These met "
         f"{len(figures.refusals())} different refusals, each counted once for a command or reading. Hostile texts "
         f"stood in each of {len({it[1:] for it in figures.fields})} fields, of some in several ways: {len(figures.fields)}.",
-        "What would have come too seldom by lot was made to happen each day, if there was occasion for it:",
+        "What would come too seldom at random was made to happen each day, if there was occasion for it:",
         table(("What", *HEADS), seldom(figures)),
         "![Answers by the hour of the day](year-answers.svg)",
         "## Who was signed in", table(("In a browser", "How often"), sorted(figures.sessions.items())),
@@ -110,22 +102,25 @@ def page(trial, given, seconds):
               ((way, count, f"{middle:.2f}", f"{most:.0f}") for way, count, middle, most in figures.middles())),
         "These are times of the clock as a client sees them, with the start of a process for `desk`, `desk_ask` and "
         "`desk_load`, on tables in memory: no disk was waited for. A line of `desk_load` is a share of its run.",
-        "![How long answers take by the hour](year-hours.svg)",
+        "The picture has the pages and the interface, by the hour; a burst of 500 isn't in it.",
+        "![How long the server's answers take by the hour](year-hours.svg)",
         "## How it grew",
-        table(("Night of", "Requests", "Memory, MiB", "File, MiB", "Log, MiB", "Home, ms"), growth(figures)),
-        "Home is the first page of the one who sees all.",
+        table(("Night of", "Requests", "Memory at most, MiB", "At the start, MiB", "File, MiB", "Log, MiB", "Home, ms"),
+              growth(figures)),
+        "Memory is what the servers of the day held at most, and what the one holds that starts after the loads of the night. "
+        "Home is the first page of the one who sees all, in the middle of five.",
         "![Memory and file](year-growth.svg)", "![Home](year-home.svg)"]) + "\n"
 
 
 def pictures(figures):
-    hours = sorted(figures.by_hour.items())
-    groups = sorted({group for group, _ in figures.asked_by_hour})
+    groups, asked = ({it[place] for it in figures.asked_by_hour} for place in (0, 1))
     yield "year-answers.svg", picture(
         "Answers by the hour of the day", "", "the hour of the day, UTC",
-        {group: [(hour, figures.asked_by_hour[group, hour]) for hour, _ in hours] for group in groups},
-        [(hour, hour) for hour, _ in hours])
+        {group: [(hour, figures.asked_by_hour[group, hour]) for hour in sorted(asked)] for group in sorted(groups)},
+        [(hour, hour) for hour in sorted(asked)])
+    hours = sorted(figures.by_hour.items())
     yield "year-hours.svg", picture(
-        "How long answers take by the hour", "ms", "the hour of the day, UTC",
+        "How long the server's answers take by the hour", "ms", "the hour of the day, UTC",
         {"the middle": [(hour, 1000 * statistics.median(it)) for hour, it in hours],
          "one in a hundred takes longer": [(hour, 1000 * sorted(it)[len(it) * 99 // 100]) for hour, it in hours]},
         [(hour, hour) for hour, _ in hours])
@@ -133,12 +128,13 @@ def pictures(figures):
     ticks = [(day, day) for day, _ in nights[::max(1, len(nights) // 10)]]
     yield "year-growth.svg", picture(
         "Memory and file", "MiB", "working days",
-        {"memory": [(day, it[2] / 1024) for day, it in nights],
-         "file and log": [(day, (it[3] + it[4]) / 2**20) for day, it in nights]}, ticks)
+        {"memory of the day at most": [(day, it.most / 1024) for day, it in nights],
+         "memory at the start": [(day, it.started / 1024) for day, it in nights],
+         "file and log": [(day, (it.file + it.log) / 2**20) for day, it in nights]}, ticks)
     yield "year-home.svg", picture(
         "The first page as the desk grows", "ms", "requests",
-        {"of the one who sees all": [(it[1], 1000 * it[5]) for _, it in nights]},
-        [(it[1], it[1]) for _, it in nights[::max(1, len(nights) // 8)]])
+        {"of the one who sees all": [(it.requests, 1000 * it.home) for _, it in nights]},
+        [(it.requests, it.requests) for _, it in nights[::max(1, len(nights) // 8)]])
 
 
 def write(trial, given, seconds):

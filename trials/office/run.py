@@ -11,7 +11,7 @@ from office.asks import PAGES, Ask, form, form_page, numbered, spelled
 from office.browser import Browser, hidden_of
 from office.crowd import Crowd
 from office.differs import Differs
-from office.figures import Figures, outcome
+from office.figures import Figures, Night, outcome
 from office.hidden import Subjects
 from office.known import Desk, Known
 from office.reader import has_place
@@ -218,7 +218,7 @@ class Trial:
         self.figures.faults["two at once"] += 1
         for ask, (answer, _) in zip(asks, pairs):
             if answer is not None:
-                self.figures.answers[ask.way, ask.name, outcome(answer)] += 1
+                self.figures.counted(ask, outcome(answer))
 
     def do_burst(self, at, asks):
         """All of it is answered, and none of it touches what another asks. The desk may cut off who hasn't sent
@@ -238,7 +238,7 @@ class Trial:
         faults.settle(self, [ask for ask, _ in written], [it for _, it in written], "in a burst")
         for ask, answer in [(ask, it) for ask, (it, _) in pairs if ask.reads]:
             self.need(f"in a burst: {ask}", answer, self.told(ask))
-            self.figures.answers[ask.way, ask.name, outcome(answer)] += 1
+            self.figures.counted(ask, outcome(answer))
         self.figures.faults["bursts"] += 1
 
     def do_tabs(self, at, asks, between, signs_out):
@@ -285,22 +285,22 @@ class Trial:
 
     def do_night(self, at):
         """All tables are those of the model: of a copy while it runs, or of the file while it stands still."""
+        most = self.server.most_of_day()
         self.up()
         self.browser.evening()
+        started = self.server.memory()
         if len(self.figures.nights) % 3 == 2:
             path = self.programs.path("desk.db")
-            memory = self.server.memory()
             self.down()
         else:
             path = faults.copied(self)
-            memory = self.server.memory()
         differs, rows = kept.difference(path, self.desk)
         if differs:
             raise Differs(f"the tables at night: {differs}")
         self.figures.compared["rows of tables"] += rows
         sizes = [os.path.getsize(it) if os.path.exists(it) else 0
                  for it in (self.programs.path("desk.db"), self.programs.path("desk.db-wal"))]
-        self.figures.night(at, len(self.desk.requests), memory, *sizes, self.home(at))
+        self.figures.night(Night(at, len(self.desk.requests), most, started, *sizes, self.home(at)))
 
     def home(self, at):
         """The middle time of some looks at the first page, by one who sees all."""

@@ -75,7 +75,7 @@ class Server:
 
     def __init__(self, programs, tables="desk.db"):
         self.programs, self.tables, self.child, self.port = programs, tables, None, 0
-        self.starts, self.slowest_start, self.told = 0, 0.0, b""
+        self.starts, self.slowest_start, self.told, self.most = 0, 0.0, b"", 0
 
     def start(self):
         """Whether it listens. What it told instead is kept."""
@@ -92,6 +92,7 @@ class Server:
         return self.child is not None and self.child.poll() is None
 
     def kill(self, signal):
+        self.most = max(self.most, self.memory("VmHWM:"))
         self.child.send_signal(signal)
         return self.gone()
 
@@ -111,10 +112,16 @@ class Server:
 
     def stop(self, token):
         """Asks it to stop."""
+        self.most = max(self.most, self.memory("VmHWM:"))
         reply = reply_to(self.port, message("POST /stop", token=token))
         return reply.rpartition(b"\r\n\r\n")[2], self.gone()
 
-    def memory(self):
-        """What it holds of memory, in KiB."""
+    def memory(self, which="VmRSS:"):
+        """What it holds of memory, in KiB, or by `VmHWM:` what it held at most. One that has ended holds none."""
         with open(f"/proc/{self.child.pid}/status", encoding="utf-8") as file:
-            return next(int(it.split()[1]) for it in file if it.startswith("VmRSS:"))
+            return next((int(it.split()[1]) for it in file if it.startswith(which)), 0)
+
+    def most_of_day(self):
+        """What those that ended since this was asked held at most."""
+        most, self.most = self.most, 0
+        return most

@@ -418,8 +418,14 @@ person_put_in = refl
 
 form_with_all_that_was_typed :
     search_form true
-    (record form { queue = codes "help"; status = codes "new"; owner = codes "Me"; requestor = codes "bob";
-      from = codes "2026-03-01"; to = codes "2026-03-09" })
+    (record form {
+      queue = codes "help";
+      status = codes "new";
+      owner = codes "Me";
+      requestor = codes "bob";
+      from = codes "2026-03-01";
+      to = codes "2026-03-09";
+    })
     ≡ filled SEARCH.now
     (codes "printer" ∷ codes "help" ∷ codes "new" ∷ codes "Me" ∷ codes "bob" ∷ codes "2026-03-01"
     ∷ codes "2026-03-09" ∷ [])

@@ -1,10 +1,13 @@
 -- Examples of the definitions: what a form's second command takes, where one is led, what is told of a
--- refusal, and who asks whether the desk is there.
-use Rattle.std.specs.Prelude.{◌≡◌, refl, ℕ, true, false, List, [], codes, Some, None}
+-- refusal, what was sent already, and who asks whether the desk is there.
+use Rattle.std.specs.Prelude.{◌≡◌, refl, ℕ, true, false, List, [], codes, Some, None, Err}
 use Rattle.std.specs.Fmt.{digits}
 use Rattle.desk_model.specs.declared.answer.Answer.TheVariants as answer
 use Rattle.desk_model.specs.declared.command.Command.TheVariants as command
 use Rattle.desk_model.specs.declared.refusal.Refusal.TheVariants as refusal
+use Rattle.desk_model.specs.declared.rows.Entry.{Entry}
+use Rattle.desk_model.specs.declared.rows.EntryKind.{EntryKind}
+use Rattle.desk_model.specs.declared.rows.EntryKind.TheVariants as kind
 use Rattle.desk_pages.specs.RefusalPage.{filed_page, replied_page}
 use Rattle.desk_pages.specs.SignIn.{kept_page}
 use Rattle.desk_pages.specs.declared.unsent.Unsent.TheVariants.{OtherPerson, Refused}
@@ -17,6 +20,7 @@ use Rattle.page_wire.specs.Next.{follow_up_command, next_text}
 use Rattle.page_wire.specs.Redirect.{led_to}
 use Rattle.page_wire.specs.Replies.{done_reply, half_form, other_person_reply, refused_reply}
 use Rattle.page_wire.specs.Replies.{sign_in_form, unsent_form, with_page}
+use Rattle.page_wire.specs.Twice.{is_of, is_status, told_request, was_sent}
 
 -- ---- the second command
 
@@ -83,6 +87,58 @@ replied_and_not_moved :
     refusal.NoTransition
     ≡ replied_page refusal.NoTransition (codes "ann") 1000 7 (codes "open")
 replied_and_not_moved = refl
+
+-- ---- what was sent already
+
+-- the second entry of request 7, by ann at minute 1000
+abbrev entry : EntryKind → List ℕ → Entry
+entry of body =
+    record {
+      id = 7;
+      number = 2;
+      moment = 1000;
+      actor = codes "ann";
+      kind = of;
+      head = [];
+      body = body;
+    }
+
+abbrev hi : SubmittedForm
+hi = sent.Reply 7 (codes "Hi") None
+
+reply_of_ten_minutes_ago : is_of (codes "ann") 1010 hi (entry kind.Reply (codes "Hi")) ≡ true
+reply_of_ten_minutes_ago = refl
+
+reply_of_eleven_minutes_ago : is_of (codes "ann") 1011 hi (entry kind.Reply (codes "Hi")) ≡ false
+reply_of_eleven_minutes_ago = refl
+
+reply_of_another_person : is_of (codes "bob") 1000 hi (entry kind.Reply (codes "Hi")) ≡ false
+reply_of_another_person = refl
+
+other_text : is_of (codes "ann") 1000 hi (entry kind.Reply (codes "hi")) ≡ false
+other_text = refl
+
+comment_with_the_text_of_a_reply : is_of (codes "ann") 1000 hi (entry kind.Comment (codes "Hi")) ≡ false
+comment_with_the_text_of_a_reply = refl
+
+comment_once_more :
+    is_of (codes "ann") 1000 (sent.Comment 7 (codes "Hi")) (entry kind.Comment (codes "Hi")) ≡ true
+comment_once_more = refl
+
+status_that_was_not_chosen : is_status None (codes "open") ≡ true
+status_that_was_not_chosen = refl
+
+status_that_is_there : is_status (Some (codes "open")) (codes "open") ≡ true
+status_that_is_there = refl
+
+status_that_is_not_there : is_status (Some (codes "resolved")) (codes "open") ≡ false
+status_that_is_not_there = refl
+
+request_that_is_not_shown : was_sent (codes "ann") 1000 hi (Err refusal.NotFound) ≡ false
+request_that_is_not_shown = refl
+
+new_request_is_told_to_none : told_request (new (codes "Hi")) ≡ None
+new_request_is_told_to_none = refl
 
 -- ---- signing in with a form
 

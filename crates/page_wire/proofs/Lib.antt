@@ -1,4 +1,5 @@
 mod Examples
+pub mod AlikePages
 pub mod Answering
 pub mod HeadOnly
 pub mod PageLaws

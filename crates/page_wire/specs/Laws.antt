@@ -1,10 +1,13 @@
--- What holds of all pages: whatever is looked at stays, and another site changes nothing and learns
--- nothing.
-use Rattle.std.specs.Prelude.{◌≡◌, ℕ, Bool, false, if◌then◌else◌, List, []}
+-- What holds of all pages: whatever is looked at stays, another site changes nothing and learns nothing,
+-- and no page depends on what its caller may not see.
+use Rattle.std.specs.Prelude.{◌≡◌, ◌≢◌, ℕ, Bool, false, if◌then◌else◌, List, []}
 use Rattle.std.specs.Prelude.{Option, Some, None}
 use Rattle.httparse.specs.Grammar.{RequestHead}
 use Rattle.settings_core.specs.declared.settings.Settings.{Settings}
 use Rattle.desk_model.specs.Desk.{Desk}
+use Rattle.desk_model.specs.IsDesk.{IsDesk}
+use Rattle.desk_model.specs.View.{view}
+use Rattle.desk_model.specs.declared.refusal.Refusal.TheVariants.{Unavailable}
 use Rattle.desk_forms.specs.declared.paths.Method.TheVariants.{Get, Post}
 use Rattle.message_core.specs.Head.{StartsWith}
 use Rattle.message_core.specs.Request.{values_in}
@@ -13,10 +16,12 @@ use Rattle.page_routes.specs.Places.{method_named, place_at, takes_post}
 use Rattle.page_routes.specs.Visits.{is_own}
 use Rattle.page_routes.specs.declared.fault.PageFault.{PageFault}
 use Rattle.page_routes.specs.declared.fault.PageFault.TheVariants.{NoRoute, BadMethod, OtherSite}
+use Rattle.page_routes.specs.declared.page.Page as routes
 use Rattle.page_routes.specs.declared.place.Place.{Place}
 use Rattle.wire_core.specs.Replies.{is_head}
 use Rattle.page_wire.specs.Faults.{fault_reply}
-use Rattle.page_wire.specs.Steps.{RequestPageSteps, Tells}
+use Rattle.page_wire.specs.Replies.{refused}
+use Rattle.page_wire.specs.Steps.{LookSteps, RequestPageSteps, Tells}
 
 -- whatever GET and HEAD ask of the pages, the desk stays
 abbrev pub LooksLeave : Type 0
@@ -39,3 +44,20 @@ OtherSitesLeave = (https : Bool) (settings : Settings) (at : ℕ) (request : Req
     → RequestPageSteps https settings at request old bytes new
     → Tells (fault_reply (is_head request.message)
     (fault_elsewhere (place_at request.message.target))) old bytes new
+
+-- what is told where memory or the store refused
+abbrev pub out_of_memory : List ℕ → ℕ → List ℕ
+out_of_memory caller at = refused caller at Unavailable
+
+-- both are the same, where neither is that
+abbrev pub AreAlike : List ℕ → List ℕ → List ℕ → Type 0
+AreAlike out bytes told = bytes ≢ out → told ≢ out → bytes ≡ told
+
+-- on two desks that a caller sees alike each page is the same, byte for byte
+abbrev pub PagesAlike : Type 0
+PagesAlike = (settings : Settings) (at : ℕ) (caller : List ℕ) (page : routes.Page)
+    (one other after last : Desk) (bytes told : List ℕ) → IsDesk one → IsDesk other
+    → view settings caller one ≡ view settings caller other
+    → LookSteps settings at caller page one bytes after
+    → LookSteps settings at caller page other told last
+    → AreAlike (out_of_memory caller at) bytes told

@@ -1,5 +1,5 @@
 //! What holds of all pages: the contracts of functions that do nothing.
-ghost use Rattle.page_wire.specs.Laws.{LooksLeave, OtherSitesLeave};
+ghost use Rattle.page_wire.specs.Laws.{LooksLeave, OtherSitesLeave, PagesAlike};
 
 /// Whatever GET and HEAD ask of the pages, the desk stays.
 pub fn look_law()
@@ -10,4 +10,10 @@ pub fn look_law()
 /// whatever fields it has.
 pub fn other_site_law()
     ensures { OtherSitesLeave }
+{}
+
+/// Nothing leaks by pages: on two desks that a caller sees alike each page is the same, byte for byte,
+/// where neither was out of memory.
+pub fn page_alike_law()
+    ensures { PagesAlike }
 {}
