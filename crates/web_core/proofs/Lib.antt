@@ -1,3 +1,4 @@
+pub mod Examples
 pub mod MessageLemmas
 pub mod NoteLemmas
 pub mod RunLemmas

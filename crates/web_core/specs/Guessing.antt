@@ -1,7 +1,7 @@
 -- Wrong tokens on the page that signs in, behind a proxy: ten from one address in a minute bar it for the
 -- rest of that minute.
 use Rattle.std.specs.Prelude.{◌≡◌, ◌⊎◌, ◌&&◌, ℕ, Bool, true, false, not, if◌then◌else◌, List, [], take}
-use Rattle.std.specs.Prelude.{Option, Some, None, Result, Ok, Err, codes}
+use Rattle.std.specs.Prelude.{MatchBool, None, Result, Ok, Err, codes}
 use Rattle.std.specs.Str.{bytes_eq}
 use Rattle.httparse.specs.Grammar.{RequestHead}
 use Rattle.guess_core.specs.Guesses.{Table, begun, is_barred, noted}
@@ -17,47 +17,56 @@ use Rattle.page_routes.specs.Places.{path_in}
 use Rattle.page_routes.specs.Visits.{is_wrong_token}
 use Rattle.wire_core.specs.Replies.{reply_with}
 use Rattle.web_core.specs.Notes.{forwarded_in}
+use Rattle.web_core.specs.declared.guessing.Guard.{Guard}
+use Rattle.web_core.specs.declared.guessing.Guard.TheVariants.{Open, Barred, Unseen}
 
 -- a POST of `/sign-in`
 abbrev pub sends_token : Message → Bool
 sends_token message =
     bytes_eq message.method (codes "POST") && bytes_eq (path_in message.target) (codes "/sign-in")
 
--- the address from which a token is sent, as the log has it, if a proxy stands in front
-abbrev pub guessing_address : Bool → Message → RequestHead → Option (List ℕ)
-guessing_address proxied message h =
-    if proxied && sends_token message then Some (take 45 (address_of (forwarded_in true h))) else None
+-- the address that a proxy tells, as the log has it
+abbrev pub address_in : RequestHead → List ℕ
+address_in h = take 45 (address_of (forwarded_in true h))
 
--- the address of what was read; none where there was no memory for it
-abbrev pub IsAddress : Bool → Result Request WireFault → Option (List ℕ) → Type 0
-IsAddress proxied (Err fault) address = address ≡ None
-IsAddress proxied (Ok request) address =
-    (address ≡ None)
-    ⊎ ((h : RequestHead) → StartsWith request.head h []
-    → address ≡ guessing_address proxied request.message h)
+-- it is barred at a minute
+abbrev pub bars : Table → ℕ → RequestHead → Bool
+bars guesses at h = is_barred guesses (address_in h) at
 
--- an address from which a token is sent is barred at a minute
-abbrev pub bars : Table → Option (List ℕ) → ℕ → Bool
-bars guesses None at = false
-bars guesses (Some address) at = is_barred guesses address at
+-- a wrong token is noted; one from an address that is barred isn't looked at
+abbrev pub with_token : Table → List ℕ → Bool → ℕ → Table
+with_token guesses address wrong at =
+    if not (is_barred guesses address at) && wrong then noted guesses address at else guesses
 
--- whether the token was wrong; not so where there was no memory to look
-abbrev pub IsWrong : Bool → Settings → ℕ → Result Request WireFault → Bool → Type 0
-IsWrong https settings at (Err fault) wrong = wrong ≡ false
-IsWrong https settings at (Ok request) wrong =
-    (wrong ≡ false)
-    ⊎ ((h : RequestHead) → StartsWith request.head h []
-    → wrong ≡ is_wrong_token https settings at request.message (values_in h))
+abbrev pub after_token : Bool → Settings → ℕ → Message → RequestHead → Table → Table
+after_token https settings at message h guesses =
+    with_token guesses (address_in h) (is_wrong_token https settings at message (values_in h)) at
 
--- a wrong token is noted, where there is memory for it
-abbrev pub NotesIf : Bool → List ℕ → ℕ → Table → Table → Type 0
-NotesIf false address at old new = new ≡ old
-NotesIf true address at old new = (new ≡ noted old address at) ⊎ (new ≡ begun old at)
+abbrev pub guard_by : Bool → Guard
+guard_by barred = if barred then Barred else Open
 
--- those of an address that is barred aren't looked at
-abbrev pub NotesGuess : Option (List ℕ) → Bool → Bool → ℕ → Table → Table → Type 0
-NotesGuess None barred wrong at old new = new ≡ old
-NotesGuess (Some address) barred wrong at old new = NotesIf (not barred && wrong) address at old new
+-- A token that is sent is let through exactly where its address isn't barred. Where there was no memory
+-- to look at it, at most the table's minute has begun.
+abbrev pub GuardsToken : Bool → Settings → ℕ → Request → Table → Guard → Table → Type 0
+GuardsToken https settings at request old Unseen new = (new ≡ old) ⊎ (new ≡ begun old at)
+GuardsToken https settings at request old guard new =
+    (h : RequestHead) → StartsWith request.head h [] → (guard ≡ guard_by (bars old at h))
+    × (new ≡ after_token https settings at request.message h old)
+
+-- what is no token is let through
+abbrev pub LetsThrough : Table → Guard → Table → Type 0
+LetsThrough old guard new = (guard ≡ Open) × (new ≡ old)
+
+abbrev pub GuardsRequest : Bool → Bool → Settings → ℕ → Request → Table → Guard → Table → Type 0
+GuardsRequest proxied https settings at request old guard new =
+    MatchBool (proxied && sends_token request.message)
+    (GuardsToken https settings at request old guard new) (LetsThrough old guard new)
+
+-- what was read is let through, or not
+abbrev pub Guards : Bool → Bool → Settings → ℕ → Result Request WireFault → Table → Guard → Table → Type 0
+Guards proxied https settings at (Err fault) old guard new = LetsThrough old guard new
+Guards proxied https settings at (Ok request) old guard new =
+    GuardsRequest proxied https settings at request old guard new
 
 -- what is told of a token from an address that is barred
 abbrev pub barred_reply : Reply

@@ -1,4 +1,4 @@
-//! What a server is asked for by who may do all: that it stops, or that its tables are copied.
+//! What a server does with a message: its step, or what who may do all asks of the server itself.
 ghost use Rattle.std.specs.Prelude.{◌≡◌, ◌||◌, false};
 ghost use Rattle.message_core.specs.Reply.{bytes_of};
 ghost use Rattle.page_routes.specs.Places.{path_in};
@@ -7,7 +7,7 @@ ghost use Rattle.web_core.specs.Control as form;
 ghost use Rattle.web_core.specs.Guessing as guessing;
 ghost use Rattle.web_core.specs.Control.{CopiesBy};
 
-use crate::guessing::sends_token;
+use crate::guessing::Guard;
 use crate::system::System;
 use browser_core::cut;
 use message_core::{Message, Request, WireFault, unavailable_reply};
@@ -15,83 +15,77 @@ use rights_core::{Roles, right};
 use settings_core::Settings;
 use text_core::Text;
 
-/// What a message asks of the server itself.
+/// What a server does with a message.
 #[derive(Clone, Copy)]
 pub(crate) enum Control {
-    Nothing,
-    /// That it looks at a token from an address that is barred.
+    /// Its step is done.
+    Step,
+    /// It is told that nothing is done for what it expects.
+    Expect,
+    /// It is refused: its token comes from an address that is barred.
     Bar,
-    /// That it stops.
+    /// It is told that there is no memory to look at its token.
+    Unseen,
+    /// The server stops.
     Stop,
-    /// That it copies its tables.
+    /// The tables are copied.
     Copy,
 }
 
-/// What was read asks of the server itself, where who sent it may: a POST of `/stop` or `/copy`
-/// with the token of a person who holds `SuperUser` on all queues; or a token on the page that signs
-/// in, from an address that is barred. A message that expects something asks for nothing yet.
+/// What is done with what was read. A message that expects something isn't looked at yet, and then
+/// the guard comes first. The server stops or copies where who sent it may: a POST of `/stop` or
+/// `/copy` with the token of a person who holds `SuperUser` on all queues.
 pub(crate) fn control_by(
     expects: bool,
-    barred: bool,
+    guard: Guard,
     settings: &Settings,
     read: &Result<Request, WireFault>,
 ) -> Control
-    ensures { result ≡ form.control_by expects barred settings.now read.now }
+    ensures { result ≡ form.control_by expects guard settings.now read.now }
 {
     if expects {
-        Control::Nothing
+        Control::Expect
     } else {
-        control_of(barred, settings, read)
+        control_past(guard, settings, read)
     }
 }
 
-fn control_of(barred: bool, settings: &Settings, read: &Result<Request, WireFault>) -> Control
-    ensures { result ≡ form.control_of barred settings.now read.now }
+fn control_past(guard: Guard, settings: &Settings, read: &Result<Request, WireFault>) -> Control
+    ensures { result ≡ form.control_past guard settings.now read.now }
+{
+    match guard {
+        Guard::Barred => Control::Bar,
+        Guard::Unseen => Control::Unseen,
+        Guard::Open => control_of(settings, read),
+    }
+}
+
+fn control_of(settings: &Settings, read: &Result<Request, WireFault>) -> Control
+    ensures { result ≡ form.control_of settings.now read.now }
 {
     match read {
-        Ok(request) => control_from(barred, settings, &request.message),
-        Err(_) => Control::Nothing,
-    }
-}
-
-fn control_from(barred: bool, settings: &Settings, message: &Message) -> Control
-    ensures { result ≡ form.control_from barred settings.now message.now }
-{
-    if barred && sends_token(message) {
-        Control::Bar
-    } else {
-        control_in(settings, message)
+        Ok(request) => control_in(settings, &request.message),
+        Err(_) => Control::Step,
     }
 }
 
 fn control_in(settings: &Settings, message: &Message) -> Control
     ensures { result ≡ form.control_in settings.now message.now }
 {
-    match control_at(cut(message.target.as_slice(), b'?').0) {
-        Control::Nothing => Control::Nothing,
-        Control::Bar => Control::Bar,
-        Control::Stop => if_may(may_control(settings, message), Control::Stop),
-        Control::Copy => if_may(may_control(settings, message), Control::Copy),
-    }
-}
-
-/// What is asked for at a path.
-fn control_at(path: &[u8]) -> Control
-    ensures { result ≡ form.control_at path.now }
-{
+    let path = cut(message.target.as_slice(), b'?').0;
     if path == b"/stop".as_slice() {
-        Control::Stop
+        if_may(may_control(settings, message), Control::Stop)
     } else if path == b"/copy".as_slice() {
-        Control::Copy
+        if_may(may_control(settings, message), Control::Copy)
     } else {
-        Control::Nothing
+        Control::Step
     }
 }
 
 fn if_may(may: bool, control: Control) -> Control
     ensures { result ≡ form.if_may may control }
 {
-    if may { control } else { Control::Nothing }
+    if may { control } else { Control::Step }
 }
 
 /// Whether a message is a POST by a person who may.
@@ -136,7 +130,7 @@ fn is_stop(control: Control) -> bool
 {
     match control {
         Control::Stop => true,
-        Control::Nothing | Control::Bar | Control::Copy => false,
+        _ => false,
     }
 }
 
@@ -146,7 +140,7 @@ pub(crate) fn copy_if<C: System>(control: Control, system: &mut C) -> bool
 {
     match control {
         Control::Copy => system.copy(),
-        Control::Nothing | Control::Bar | Control::Stop => false,
+        _ => false,
     }
 }
 

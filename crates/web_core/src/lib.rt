@@ -9,7 +9,7 @@
 //! that is so, or somebody who may has asked the server to stop. Where one asks for a copy of the
 //! tables, its `System` makes it between two messages. The log notes what of the message it may
 //! tell. Behind a proxy an address from which ten wrong tokens came within a minute gets 429 for
-//! further ones, until the minute is over.
+//! further ones, until the minute is over; where there is no memory to look at a token, it gets 503.
 //!
 //! `serve_web` has both clauses: what happens to the tables is a run of such steps, and the
 //! server's own history.

@@ -3,15 +3,14 @@ ghost use Rattle.std.specs.Prelude.{◌≡◌, ◌≢◌, Err};
 ghost use Rattle.connection_core.specs.Reply.{bytes_of};
 ghost use Rattle.service_core.specs.Leaves.{LeavesDesk};
 ghost use Rattle.service_core.specs.Seen.{settings_of, tables_of};
-ghost use Rattle.web_core.specs.Control.{IsTold, control_by as asked_by};
-ghost use Rattle.web_core.specs.Messages.{IsRepliedOn, IsTakenAs, TellsExpecting};
+ghost use Rattle.web_core.specs.Messages.{IsTakenAs, TakenStepsOn};
 
 use crate::control::{
     Control, barred_reply, control_by, copy_if, copy_reply, stop_reply, stops_then,
 };
 use crate::date::with_date;
 use crate::desk::WebDesk;
-use crate::guessing::{bars, guessing_address, is_wrong, note_guess};
+use crate::guessing::guarded;
 use crate::note::note_on;
 use crate::shut::is_seen_shut;
 use crate::system::System;
@@ -26,40 +25,31 @@ use std::alloc::Global;
 use store_core::Backend;
 use wire_core::Routes;
 
-/// The reply to what was read of this message, after its step: what it asks of the server itself is
-/// told, and where it expects something nothing is done. Where memory is refused nothing is done
-/// either, and the reply says so.
+/// The reply to what was read of a message, after its step, or to what else is done with it. Where
+/// memory is refused nothing is done, and the reply says so.
 #[tactic(auto, using(service_core::proofs::LeftLemmas::left_same))]
 fn answer_to<S: Backend>(
     alloc: Global,
     routes: Option<&Routes>,
     https: bool,
     minute: u32,
-    _message: &[u8],
-    expects: bool,
-    _barred: bool,
     read: &Result<Request, WireFault>,
     control: Control,
     copied: bool,
     desk: &mut Desk<S>,
 ) -> Reply
-    requires expects { TellsExpecting _message.now expects }
-    requires read { read.now ≢ Err WireFault.NoMemory → IsTakenAs _message.now read.now }
-    requires control { control ≡ asked_by expects _barred (settings_of S.Store desk.old) read.now }
-    ensures step { IsRepliedOn https (settings_of S.Store desk.old) (minute, _message.now)
+    ensures step { TakenStepsOn https (settings_of S.Store desk.old) minute copied read.now control
         (bytes_of result) (tables_of S.Store desk.old) (tables_of S.Store desk.new) }
-    ensures told { IsTold control copied (bytes_of result) }
     ensures left { LeavesDesk S.Store desk.old desk.new }
 {
-    if expects {
-        return Reply::Fixed(expectation_failed());
-    }
     match control {
-        Control::Nothing => match answer_sent(alloc, routes, https, read, minute, desk) {
+        Control::Step => match answer_sent(alloc, routes, https, read, minute, desk) {
             Ok(reply) => Reply::Made(reply),
             Err(_) => Reply::Fixed(unavailable_reply(false)),
         },
+        Control::Expect => Reply::Fixed(expectation_failed()),
         Control::Bar => Reply::Fixed(barred_reply()),
+        Control::Unseen => Reply::Fixed(unavailable_reply(false)),
         Control::Stop => Reply::Fixed(stop_reply()),
         Control::Copy => Reply::Fixed(copy_reply(copied)),
     }
@@ -94,9 +84,16 @@ impl<S: Backend, C: System> server_core::Desk for WebDesk<S, C> {
     fn step(&mut self, alloc: Global, minute: u32, message: &[u8]) -> Answer {
         let expects = is_expecting(message);
         let read = taken(alloc, message);
-        let from = guessing_address(alloc, self.proxied, &read);
-        let barred = bars(&self.guesses, &from, minute);
-        let control = control_by(expects, barred, self.desk.settings(), &read);
+        let guard = guarded(
+            alloc,
+            self.proxied,
+            self.https,
+            self.desk.settings(),
+            &mut self.guesses,
+            minute,
+            &read,
+        );
+        let control = control_by(expects, guard, self.desk.settings(), &read);
         let copied = copy_if(control, &mut self.system);
         let routes = self.routes.as_ref();
         let whole = answer_to(
@@ -104,9 +101,6 @@ impl<S: Backend, C: System> server_core::Desk for WebDesk<S, C> {
             routes,
             self.https,
             minute,
-            message,
-            expects,
-            barred,
             &read,
             control,
             copied,
@@ -121,12 +115,8 @@ impl<S: Backend, C: System> server_core::Desk for WebDesk<S, C> {
             &read,
             whole.bytes(),
         );
-        let asks = from.is_some() && !barred;
-        let wrong = is_wrong(alloc, asks, self.https, self.desk.settings(), minute, &read);
-        note_guess(alloc, &mut self.guesses, &from, barred, wrong, minute);
         let reply = with_date(alloc, self.system.second(), whole);
         drop(read);
-        drop(from);
         self.stops = stops_then(self.stops, control);
         self.is_shut = is_seen_shut(&mut self.desk);
         Answer { reply, note }
