@@ -42,10 +42,25 @@ class Chromium:
         while not (pages := [it for it in self.ask("Target.getTargets")["targetInfos"]
                              if it["type"] == "page"]):
             time.sleep(0.1)
-        self.page = self.ask("Target.attachToTarget", targetId=pages[0]["targetId"],
-                             flatten=True)["sessionId"]
+        self.work_on(self.attached(pages[0]["targetId"]))
+
+    def attached(self, target):
+        return self.ask("Target.attachToTarget", targetId=target, flatten=True)["sessionId"]
+
+    def work_on(self, page):
+        """Goes on with this page, and returns that before it."""
+        before, self.page = self.page, page
         for domain in DOMAINS:
             self.ask(f"{domain}.enable")
+        self.ask("Page.bringToFront")
+        return before
+
+    def other_tab(self):
+        """Goes on with a new tab, and returns the page before it."""
+        before, self.page = self.page, None
+        target = self.ask("Target.createTarget", url="about:blank")["targetId"]
+        page, self.page = self.attached(target), before
+        return self.work_on(page)
 
     def message(self, until):
         """The next message, or none where it doesn't come in time."""
@@ -140,8 +155,19 @@ class Chromium:
         if not self.of_element(selector, f"[it, ...it.labels ?? []].some(one =>"
                                f" one.contains(document.elementFromPoint({x}, {y})))"):
             raise RuntimeError(f"{selector} can't be pressed: something covers it")
+        self.click(x, y, 1)
+
+    def click(self, x, y, count):
+        """The first, second .. press of the mouse at one place."""
         for kind in ("mousePressed", "mouseReleased"):
-            self.ask("Input.dispatchMouseEvent", type=kind, x=x, y=y, button="left", clickCount=1)
+            self.ask("Input.dispatchMouseEvent", type=kind, x=x, y=y, button="left", clickCount=count)
+
+    def press_often(self, selector, times, gap):
+        """So many presses on an element, with these milliseconds between them."""
+        x, y = self.place_of(selector)
+        for count in range(1, times + 1):
+            self.click(x, y, count)
+            time.sleep(gap / 1_000)
 
     def follow(self, selector):
         """A press on what leads to a page."""

@@ -44,23 +44,34 @@ def copy_office(name):
             shutil.copy(path(file), path(file.replace("office", name, 1)))
 
 
+def begin(visitor, name, settings="settings"):
+    """Starts the visitor's server, on the tables of that name."""
+    words = [WEB, "--db", path(name), "--settings", path(settings), "--port", str(visitor.port)]
+    visitor.server = subprocess.Popen(words, stdout=subprocess.PIPE, stderr=subprocess.PIPE)
+    expect(f"{name}: the start of {words}", said(visitor.server, 60), b"listening %d\n" % visitor.port)
+
+
+def finish(visitor, name):
+    """Kills the visitor's server."""
+    run = visitor.server
+    run.kill()
+    run.wait()
+    expect(f"{name}: the standard error", run.stderr.read(), b"")
+    run.stdout.close()
+    run.stderr.close()
+
+
 @contextlib.contextmanager
 def serving(name, minute=None):
     """A visitor to a server on an office of the days before this minute, or before now."""
     make_office(name, minute) if minute else copy_office(name)
-    port = free_port()
-    words = [WEB, "--db", path(name), "--settings", path("settings"), "--port", str(port)]
-    run = subprocess.Popen(words, stdout=subprocess.PIPE, stderr=subprocess.PIPE)
-    expect(f"{name}: the start of {words}", said(run, 60), b"listening %d\n" % port)
+    visitor = Visitor(free_port())
+    begin(visitor, name)
     try:
-        yield Visitor(port)
-        expect(f"{name}: it serves on", run.poll(), None)
+        yield visitor
+        expect(f"{name}: it serves on", visitor.server.poll(), None)
     finally:
-        run.kill()
-        run.wait()
-        expect(f"{name}: the standard error", run.stderr.read(), b"")
-        run.stdout.close()
-        run.stderr.close()
+        finish(visitor, name)
 
 
 def chromium():

@@ -41,7 +41,7 @@ def form(fields):
 
 class Visitor:
     def __init__(self, port):
-        self.port, self.origin = port, f"http://127.0.0.1:{port}"
+        self.port, self.origin, self.server = port, f"http://127.0.0.1:{port}", None
 
     def send(self, line, lines=(), body=None):
         """The reply to a message with just these lines."""
