@@ -4,7 +4,8 @@
 //!   `BadBody`. `NoMemory` may come in place of any answer.
 //! - `is_page_place` tells which targets are places of the pages; all others are the interface's.
 //! - `page_path` and `form_path` are the paths to which an answer leads: numbers and names, and of a
-//!   search what was typed for it.
+//!   search what was typed for it. `laws`: wherever a browser is led, the path is
+//!   one line, and of this site.
 #![tactic(auto)]
 
 mod ask;
@@ -12,6 +13,7 @@ mod fault;
 mod filled;
 mod fronts;
 mod head_box;
+pub mod laws;
 mod lines;
 mod next;
 mod page;
