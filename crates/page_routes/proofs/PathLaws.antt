@@ -1,5 +1,5 @@
 -- The path to which a place leads is of plain bytes, and of this site.
-use Rattle.std.proofs.Common.{◌≡◌, ℕ, zero, suc, ◌<◌, ◌+◌, ◌^◌, ◌==◌, Bool, true, false, ◌&&◌, List, [], ◌∷◌, ◌++◌}
+use Rattle.std.proofs.Common.{◌≡◌, ℕ, zero, suc, ◌<◌, ◌^◌, Bool, true, false, ◌&&◌, List, [], ◌∷◌, ◌++◌}
 use Rattle.std.proofs.Common.{length, drop, decimal, nat_le, nat_lt, Option, Some, None, refl, arith, codes}
 use Rattle.std.proofs.Common.{if◌then◌else◌, unwrap_or}
 use Rattle.std.specs.Prelude.{⊤, IfSome}
@@ -24,8 +24,7 @@ use Rattle.session_core.proofs.Numbers.{decimal_digits}
 use Rattle.page_routes.specs.Fronts.{begins, behind}
 use Rattle.page_routes.specs.HeadBox.{box_page, leads, number_sought, number_typed, unmarked, words_query}
 use Rattle.page_routes.specs.Laws.{StaysHere}
-use Rattle.page_routes.specs.Paths.{path_of}
-use Rattle.page_routes.specs.Places.{act_named, below, find_at, find_with, fixed, go_at, in_queues, in_requests}
+use Rattle.page_routes.specs.Places.{below, find_at, find_with, fixed, go_at, in_queues, in_requests}
 use Rattle.page_routes.specs.Places.{is_shown, name_in, path_in, place_at, place_in, place_of, queried}
 use Rattle.page_routes.specs.Places.{query_in, queue_page, request_page, start_behind, start_of}
 use Rattle.page_routes.specs.declared.page.Page.{Page}
@@ -60,7 +59,7 @@ if_tested : {A : Type 0} (P : A → Type 0) (b : Bool) (x : A) → (b ≡ true �
 if_tested P true x holds = holds refl
 if_tested P false x holds = tt
 
-anything : {A : Type 0} → A → Type 0
+abbrev anything : {A : Type 0} → A → Type 0
 anything x = ⊤
 
 if_any : {A : Type 0} (o : Option A) → IfSome o (anything {A = A})
@@ -113,7 +112,7 @@ number_plain n small = each_so is_digit digit_shown (decimal n) (decimal_digits 
 
 -- ---- numbers and texts that were read
 
-is_small : ℕ → Type 0
+abbrev is_small : ℕ → Type 0
 is_small n = n < 2 ^ 32
 
 number_small : (text : List ℕ) → IfSome (number_of text) is_small
@@ -135,13 +134,16 @@ page_of (places.Go page) = page
 page_of (places.Act act id) = pages.Request id
 page_of _ = pages.Home
 
+abbrev IsHere : Place → Type 0
+IsHere place = StaysHere (page_of place)
+
 abbrev pub Here : Option Place → Type 0
-Here o = IfSome o (λ place. StaysHere (page_of place))
+Here o = IfSome o IsHere
 
 queue_here : (name : List ℕ) (word : Option (List ℕ)) → ArePlain name → Here (queue_page name word)
 queue_here name None plain = (plain, refl)
 queue_here name (Some word) plain =
-    if_chosen _ (bytes_eq word (codes "new")) (Some (places.Page (pages.New name))) None
+    if_chosen IsHere (bytes_eq word (codes "new")) (Some (places.Page (pages.New name))) None
     (both_plain name (codes "/new") plain refl, refl) tt
 
 name_read : (text : List ℕ) → IfSome (name_in text) ArePlain
@@ -149,19 +151,19 @@ name_read text = if_tested ArePlain (is_name text) text (name_plain text)
 
 queues_here : (rest : List ℕ) → Here (in_queues rest)
 queues_here rest =
-    if_then ArePlain _ (λ name. queue_page name (rest_after 47 rest)) _
+    if_then ArePlain IsHere (λ name. queue_page name (rest_after 47 rest)) _
     (if_then (anything {A = List ℕ}) ArePlain name_in (text_in (before 47 rest)) (if_any _) (λ text any. name_read text))
     (λ name plain. queue_here name (rest_after 47 rest) plain)
 
 request_here : (id : ℕ) (word : Option (List ℕ)) → id < 2 ^ 32 → Here (request_page id word)
 request_here id None small = (number_plain id small, refl)
 request_here id (Some word) small =
-    if_mapped (anything {A = CommandForm}) _ (λ act. places.Act act id) _ (if_any _)
+    if_mapped (anything {A = CommandForm}) IsHere (λ act. places.Act act id) _ (if_any _)
     (λ act any. (number_plain id small, refl))
 
 requests_here : (rest : List ℕ) → Here (in_requests rest)
 requests_here rest =
-    if_then is_small _ (λ id. request_page id (rest_after 47 rest)) _
+    if_then is_small IsHere (λ id. request_page id (rest_after 47 rest)) _
     (if_then (anything {A = List ℕ}) is_small number_of (text_in (before 47 rest)) (if_any _)
     (λ text any. number_small text))
     (λ id small. request_here id (rest_after 47 rest) small)
@@ -270,20 +272,20 @@ sought_small (Some fields) =
 
 go_here : (query : List ℕ) → Here (go_at query)
 go_here query =
-    if_mapped ArePlain _ (λ text. places.Go (box_page text)) (query_in query) (query_plain query)
+    if_mapped ArePlain IsHere (λ text. places.Go (box_page text)) (query_in query) (query_plain query)
     (λ text plain. box_here (number_sought (fields_of text)) text (sought_small (fields_of text)) plain)
 
 -- ---- all
 
 fixed_here : (path : List ℕ) → Here (fixed path)
 fixed_here path =
-    if_chosen _ (bytes_eq path (codes "/")) (Some (places.Page pages.Home)) _ (refl, refl)
-    (if_chosen _ (bytes_eq path (codes "/sign-in")) (Some places.SignIn) _ (refl, refl)
-    (if_chosen _ (bytes_eq path (codes "/sign-out")) (Some places.SignOut) _ (refl, refl)
-    (if_chosen _ (bytes_eq path (codes "/style.css")) (Some places.Style) _ (refl, refl)
-    (if_chosen _ (bytes_eq path (codes "/desk/overdue")) (Some (places.Page pages.Overdue)) _ (refl, refl)
-    (if_chosen _ (bytes_eq path (codes "/desk/workload")) (Some (places.Page pages.Workload)) _ (refl, refl)
-    (if_chosen _ (bytes_eq path (codes "/desk/queues")) (Some places.Queues) None (refl, refl) tt))))))
+    if_chosen IsHere (bytes_eq path (codes "/")) (Some (places.Page pages.Home)) _ (refl, refl)
+    (if_chosen IsHere (bytes_eq path (codes "/sign-in")) (Some places.SignIn) _ (refl, refl)
+    (if_chosen IsHere (bytes_eq path (codes "/sign-out")) (Some places.SignOut) _ (refl, refl)
+    (if_chosen IsHere (bytes_eq path (codes "/style.css")) (Some places.Style) _ (refl, refl)
+    (if_chosen IsHere (bytes_eq path (codes "/desk/overdue")) (Some (places.Page pages.Overdue)) _ (refl, refl)
+    (if_chosen IsHere (bytes_eq path (codes "/desk/workload")) (Some (places.Page pages.Workload)) _ (refl, refl)
+    (if_chosen IsHere (bytes_eq path (codes "/desk/queues")) (Some places.Queues) None (refl, refl) tt))))))
 
 below_here : (queues requests : Option (List ℕ)) → Here (below queues requests)
 below_here (Some rest) requests = queues_here rest
@@ -292,15 +294,15 @@ below_here None None = tt
 
 queried_here : (path query : List ℕ) → Here (queried path query)
 queried_here path query =
-    if_chosen _ (bytes_eq path (codes "/desk/go")) (go_at query) (find_at path query) (go_here query)
+    if_chosen IsHere (bytes_eq path (codes "/desk/go")) (go_at query) (find_at path query) (go_here query)
     (found_here (start_of path) (query_in query) (start_small path) (query_plain query))
 
 place_here : (path : List ℕ) → Here (place_of path)
 place_here path =
-    if_either _ (fixed path) _ (fixed_here path)
+    if_either IsHere (fixed path) _ (fixed_here path)
     (below_here (behind (codes "/desk/queues/") path) (behind (codes "/desk/requests/") path))
 
 pub target_here : (target : List ℕ) → Here (place_at target)
 target_here target =
-    if_either _ (place_of (path_in target)) _ (place_here (path_in target))
+    if_either IsHere (place_of (path_in target)) _ (place_here (path_in target))
     (queried_here (path_in target) (unwrap_or (rest_after 63 target) []))

@@ -1,5 +1,5 @@
 -- Where a message leads is a page to which a place leads.
-use Rattle.std.proofs.Common.{◌≡◌, ℕ, Bool, true, false, List, Option, Some, None, Result, Ok, Err, refl, codes}
+use Rattle.std.proofs.Common.{ℕ, Bool, true, false, List, [], ◌∷◌, Option, Some, None, Ok, Err, refl, codes}
 use Rattle.std.proofs.Common.{if◌then◌else◌}
 use Rattle.std.specs.Prelude.{⊤, IfOk, IfSome}
 use Rattle.std.specs.Str.{bytes_eq}
@@ -15,8 +15,9 @@ use Rattle.page_routes.specs.Laws.{StaysHere, WaysStayHere, led}
 use Rattle.page_routes.specs.Places.{method_named, place_at, takes_post}
 use Rattle.page_routes.specs.Visits.{Answer, Lines, acted, asked_at, asked_by, caller_by, caller_of, cookie_by}
 use Rattle.page_routes.specs.Visits.{form_of, got, is_own, kept, looked, looker, next_by, next_from, next_in}
-use Rattle.page_routes.specs.Visits.{next_of, page_or_home, posted, posted_from, resumed, sent_from, signed}
+use Rattle.page_routes.specs.Visits.{next_of, page_or_home, posted, posted_from, resumed, signed}
 use Rattle.page_routes.specs.Visits.{signed_at, signed_by, signing, token_in, typed, typed_at, visited, visited_at}
+use Rattle.page_routes.specs.declared.fault.PageFault.TheVariants.{BadBody, BadMethod, OtherSite}
 use Rattle.page_routes.specs.declared.next.Next.{Next}
 use Rattle.page_routes.specs.declared.next.Next.TheVariants as nexts
 use Rattle.page_routes.specs.declared.next.SubmittedForm.{SubmittedForm}
@@ -35,8 +36,8 @@ abbrev Answers : Answer → Type 0
 Answers answer = IfOk answer Stays
 
 chosen : (b : Bool) (one other : Answer) → Answers one → Answers other → Answers (if b then one else other)
-chosen true one other yes no = yes
-chosen false one other yes no = no
+chosen true one other left right = left
+chosen false one other left right = right
 
 -- ---- GET
 
@@ -118,8 +119,8 @@ home_stays (places.Act act id) here = (refl, refl)
 
 either_next : (b : Bool) (one other : Next) → NextStays one → NextStays other
     → NextStays (if b then one else other)
-either_next true one other yes no = yes
-either_next false one other yes no = no
+either_next true one other left right = left
+either_next false one other left right = right
 
 next_stays : (place : Option Place) (fields : List Field) → Here place → NextStays (next_from place fields)
 next_stays None fields here = (refl, refl)
@@ -149,7 +150,8 @@ signing_stays : (https : Bool) (s : Settings) (at : ℕ) (fields : Option (List 
 signing_stays https s at None = tt
 signing_stays https s at (Some fields) =
     let cookie = cookie_by s at (has fields (codes "keep")) (token_in fields) in
-    chosen (has_fields _ kept fields) (Ok (signed https s at fields)) (Err _)
+    chosen (has_fields (codes "token" ∷ codes "next" ∷ []) kept fields) (Ok (signed https s at fields))
+    (Err BadBody)
     (moment_stays (is_due_moment at) (signed_at https s at fields)
     (signed_stays https (caller_by s at cookie) cookie (has fields (codes "keep")) (next_in fields)
     (next_stays (place_at (typed (codes "next") fields)) fields
@@ -178,8 +180,8 @@ visited_stays : (https : Bool) (s : Settings) (at : ℕ) (lines : Lines) (body :
 visited_stays https s at lines body place None here = tt
 visited_stays https s at lines body place (Some Get) here = got_stays https s at lines place here
 visited_stays https s at lines body place (Some Post) here =
-    chosen (takes_post place) (posted_from https s at lines body place) (Err _)
-    (chosen (is_own lines) (posted https s at lines body place) (Err _)
+    chosen (takes_post place) (posted_from https s at lines body place) (Err (BadMethod false))
+    (chosen (is_own lines) (posted https s at lines body place) (Err OtherSite)
     (posted_stays https s at lines body place) tt) tt
 
 at_place : (https : Bool) (s : Settings) (at : ℕ) (message : Message) (lines : Lines) (place : Option Place)
