@@ -1,4 +1,5 @@
 pub mod Examples
+pub mod GuardLemmas
 pub mod MessageLemmas
 pub mod NoteLemmas
 pub mod RunLemmas

@@ -5,10 +5,9 @@ use Rattle.settings_core.specs.declared.settings.Settings.{Settings}
 use Rattle.message_core.specs.Reply.{bytes_of, unavailable}
 use Rattle.message_core.specs.declared.fault.WireFault.{WireFault}
 use Rattle.message_core.specs.declared.request.Request.{Request}
-use Rattle.service_core.specs.TableSteps.{OverTables}
 use Rattle.store_tables.specs.Calls.{LeavesTables}
 use Rattle.wire_core.proofs.Stepping.{leads_nowhere, leads_same, leads_wider}
-use Rattle.page_wire.specs.Steps.{MessageReadStepsOn, Tells}
+use Rattle.page_wire.specs.Steps.{MessageReadStepsOn}
 use Rattle.server_core.specs.Turns.{Answered}
 use Rattle.web_core.specs.Dates.{IsDated}
 use Rattle.web_core.specs.Messages.{IsAnswered, IsReplyOn, IsReplyTo, IsSeenOf, Seen, TakenSteps, TakenStepsOn}

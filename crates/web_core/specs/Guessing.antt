@@ -1,6 +1,6 @@
 -- Wrong tokens on the page that signs in, behind a proxy: ten from one address in a minute bar it for the
 -- rest of that minute.
-use Rattle.std.specs.Prelude.{◌≡◌, ◌⊎◌, ◌&&◌, ℕ, Bool, true, false, not, if◌then◌else◌, List, [], take}
+use Rattle.std.specs.Prelude.{◌≡◌, ◌⊎◌, ◌&&◌, ℕ, Bool, true, false, if◌then◌else◌, List, [], take}
 use Rattle.std.specs.Prelude.{MatchBool, None, Result, Ok, Err, codes}
 use Rattle.std.specs.Str.{bytes_eq}
 use Rattle.httparse.specs.Grammar.{RequestHead}
@@ -33,10 +33,13 @@ address_in h = take 45 (address_of (forwarded_in true h))
 abbrev pub bars : Table → ℕ → RequestHead → Bool
 bars guesses at h = is_barred guesses (address_in h) at
 
+abbrev pub noted_if : Bool → Table → List ℕ → ℕ → Table
+noted_if wrong guesses address at = if wrong then noted guesses address at else guesses
+
 -- a wrong token is noted; one from an address that is barred isn't looked at
 abbrev pub with_token : Table → List ℕ → Bool → ℕ → Table
 with_token guesses address wrong at =
-    if not (is_barred guesses address at) && wrong then noted guesses address at else guesses
+    if is_barred guesses address at then guesses else noted_if wrong guesses address at
 
 abbrev pub after_token : Bool → Settings → ℕ → Message → RequestHead → Table → Table
 after_token https settings at message h guesses =

@@ -107,18 +107,37 @@ fn bars_token(
     request: &Request,
 ) -> Result<bool, AllocError>
     ensures ok { (h : RequestHead) → StartsWith request.now.head h []
-        → OnOk result (λ barred. (barred ≡ form.bars guesses.old at h)
+        → IfOk result (λ barred. (barred ≡ form.bars guesses.old at h)
         × (guesses.new ≡ form.after_token https settings.now at request.now.message h guesses.old)) }
     ensures err { OnErr result ((guesses.new ≡ guesses.old) ⊎ (guesses.new ≡ begun guesses.old at)) }
 {
     let address = address_in(alloc, request.head.as_slice())?;
-    if guesses.is_barred(address.as_slice(), at) {
+    let from = address.as_slice();
+    if guesses.is_barred(from, at) {
         return Ok(true);
     }
-    if is_wrong_token(alloc, settings, https, at, request)? {
-        guesses.note_wrong(alloc, address.as_slice(), at)?;
-    }
+    let wrong = is_wrong_token(alloc, settings, https, at, request)?;
+    note_if(alloc, guesses, wrong, from, at)?;
     Ok(false)
+}
+
+/// Notes a token that is wrong. `AllocError` where memory is refused: then at most the minute of what
+/// is noted has begun.
+fn note_if(
+    alloc: Global,
+    guesses: &mut Guesses,
+    wrong: bool,
+    address: &[u8],
+    at: u32,
+) -> Result<(), AllocError>
+    ensures ok { OnOk result (guesses.new ≡ form.noted_if wrong guesses.old address.now at) }
+    ensures err { OnErr result (guesses.new ≡ begun guesses.old at) }
+{
+    if wrong {
+        guesses.note_wrong(alloc, address, at)
+    } else {
+        Ok(())
+    }
 }
 
 /// The address that a proxy tells, as the log has it.

@@ -32,7 +32,7 @@ pub returns-in-Unseen-clause-step : goal.returns-in-Unseen-clause-step
 returns-in-Unseen-clause-step g c =
     told c.args.https (settings_of g.S.Store c.args.desk.now) c.args.minute c.args.copied c.args.read.now
     c.args.control _ _ (tables_of g.S.Store c.args.desk.now) c.in-Unseen.is
-    (λ desk. (c.unavailable_reply.ensures, refl))
+    (λ desk. (c.unavailable_reply-in-Unseen.ensures, refl))
 
 pub returns-in-Stop-clause-step : goal.returns-in-Stop-clause-step
 returns-in-Stop-clause-step g c =

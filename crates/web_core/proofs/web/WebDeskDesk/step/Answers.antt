@@ -1,5 +1,5 @@
 -- the step of the message, and the look whether the store is shut leaves its tables
-use Rattle.std.proofs.Common.{◌≡◌, ◌∙◌, ℕ, Bool, Option, ap, refl, subst, sym}
+use Rattle.std.proofs.Common.{◌∙◌, ℕ, Option, ap, refl, subst, sym}
 use Rattle.std.specs.Prelude.{◌||◌}
 use Rattle.connection_core.specs.Reply.{bytes_of}
 use Rattle.service_core.specs.Seen.{settings_of, tables_of}
