@@ -19,10 +19,12 @@ pub enum Unsent {
     OtherPerson(Text),
     /// Nobody was signed in; the caller signed in then.
     SignedIn,
+    /// It is a reply to entries that the history doesn't have.
+    Ahead,
 }
 
 /// The heading of what is said of it.
-#[tactic(auto, unfolding(crate::specs::Unsent::other_heading, crate::specs::Unsent::own_heading))]
+#[tactic(auto, unfolding(crate::specs::Unsent::other_heading, crate::specs::Unsent::own_heading, crate::specs::Unsent::ahead_heading))]
 pub(crate) fn title_of(why: &Unsent) -> &'static str
     ensures { result.now ≡ form.title_of why.now }
 {
@@ -30,6 +32,7 @@ pub(crate) fn title_of(why: &Unsent) -> &'static str
         Unsent::Refused(refusal) => heading_of(refusal),
         Unsent::OtherPerson(_) => "This form was another person’s",
         Unsent::SignedIn => "You are signed in",
+        Unsent::Ahead => "Your reply wasn’t sent yet",
     }
 }
 
@@ -42,7 +45,25 @@ pub(crate) fn put_why(out: &mut Vec<u8>, why: &Unsent, caller: &str) -> Result<(
         Unsent::Refused(refusal) => put_refusal(out, refusal),
         Unsent::OtherPerson(person) => put_other(out, caller, person.as_str()),
         Unsent::SignedIn => put_signed_in(out, caller),
+        Unsent::Ahead => put_ahead(out),
     }
+}
+
+#[tactic(auto, unfolding(crate::specs::Unsent::ahead_heading, crate::specs::Unsent::ahead_note))]
+fn put_ahead(out: &mut Vec<u8>) -> Result<(), AllocError>
+    ensures { OnOk result (out.new.items ≡ out.old.items ++ page_bytes form.ahead_note) }
+{
+    let values = [
+        Value::Text("Your reply wasn’t sent yet"),
+        Value::Text(
+            "The history doesn’t go as far as this form says. Look at the request, and press the button.",
+        ),
+        Value::Text(""),
+        Value::Text(""),
+        Value::Text(""),
+        Value::Text(""),
+    ];
+    fill(out, NOTE, &values, &[])
 }
 
 #[tactic(auto, unfolding(crate::specs::Unsent::other_heading, crate::specs::Unsent::other_note))]
