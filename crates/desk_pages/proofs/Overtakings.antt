@@ -30,9 +30,11 @@ overtaken_same caller another moment later entry other dossier file seen last te
     let id = dossier.shown.row.id in
     let n = file.shown.row.id in
     same_both (same_top ahead_heading ahead_heading Elsewhere caller another)
+    (same_both
     (same_both (same_crumb id n)
     (same_both (same_overtaken entry other)
     (same_both (same_newer seen last dossier.entries file.entries kinds)
     (same_both (same_typed (same_reply id n caller another (last_number dossier.entries)
     (last_number file.entries) text words status chosen true same))
-    (same_both (same_to_request id n) (same_bottom moment later))))))
+    (same_to_request id n)))))
+    (same_bottom moment later))

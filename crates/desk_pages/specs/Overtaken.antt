@@ -24,14 +24,22 @@ deed_of _ = codes "changed it"
 unfoldable pub overtaken : Entry → List Part
 overtaken e = filled OVERTAKEN.now (e.actor ∷ deed_of e.kind ∷ []) []
 
--- the reply waits for a caller who has seen the entries up to a number, since somebody made an entry
--- meanwhile: what came behind that, and the form with the text and the status, whose caller has now seen
--- them all
+-- the form with a text and a status, whose caller has now seen all entries
+abbrev pub reply_again : List ℕ → Dossier → List ℕ → Option (List ℕ) → List Part
+reply_again caller dossier text status =
+    typed (reply dossier.shown.row.id caller (last_number dossier.entries) text status true)
+
+-- what came behind the entry of a number, and the form
+abbrev pub overtaken_content : List ℕ → Entry → Dossier → ℕ → List ℕ → Option (List ℕ) → List Part
+overtaken_content caller entry dossier seen text status =
+    crumb dossier.shown.row.id
+    ++ (overtaken entry
+    ++ (newer seen dossier.entries
+    ++ (reply_again caller dossier text status ++ to_request dossier.shown.row.id)))
+
+-- the reply waits for a caller who has seen the entries up to that number, since somebody made an entry
+-- meanwhile
 abbrev pub overtaken_page : List ℕ → ℕ → Entry → Dossier → ℕ → List ℕ → Option (List ℕ) → List Part
 overtaken_page caller moment entry dossier seen text status =
     top ahead_heading place.Elsewhere caller
-    ++ (crumb dossier.shown.row.id
-    ++ (overtaken entry
-    ++ (newer seen dossier.entries
-    ++ (typed (reply dossier.shown.row.id caller (last_number dossier.entries) text status true)
-    ++ (to_request dossier.shown.row.id ++ bottom moment)))))
+    ++ (overtaken_content caller entry dossier seen text status ++ bottom moment)

@@ -9,6 +9,7 @@ use crate::history::{last_number, put_newer};
 use crate::markup::refused::OVERTAKEN;
 use crate::refusal::put_reply_form;
 use crate::refused::{put_crumb, put_to_request};
+use crate::unsent::ahead_heading;
 use desk_model::{Dossier, Entry, EntryKind};
 use hours_core::Minute;
 use page_core::{Value, fill};
@@ -31,30 +32,45 @@ pub fn overtaken_page(
         (form.overtaken_page caller.now moment entry.now dossier.now seen text.now
         (option_map (λ s. s.now) status.entry))) }
 {
-    let id = dossier.shown.row.id;
-    let entries = dossier.entries.as_slice();
     let mut out = Vec::new(alloc);
-    put_top(
-        &mut out,
-        "Your reply wasn’t sent yet",
-        Place::Elsewhere,
-        caller,
-    )?;
-    put_crumb(&mut out, id)?;
-    put_overtaken(&mut out, entry)?;
-    put_newer(&mut out, seen, entries)?;
-    put_reply_form(
-        &mut out,
-        id,
-        caller,
-        last_number(entries),
-        text,
-        status,
-        true,
-    )?;
-    put_to_request(&mut out, id)?;
+    put_top(&mut out, ahead_heading(), Place::Elsewhere, caller)?;
+    put_content(&mut out, caller, entry, dossier, seen, text, status)?;
     put_bottom(&mut out, moment)?;
     Ok(out)
+}
+
+fn put_content(
+    out: &mut Vec<u8>,
+    caller: &str,
+    entry: &Entry,
+    dossier: &Dossier,
+    seen: u32,
+    text: &str,
+    status: Option<&str>,
+) -> Result<(), AllocError>
+    ensures { OnOk result (out.new.items ≡ out.old.items ++ page_bytes (form.overtaken_content
+        caller.now entry.now dossier.now seen text.now (option_map (λ s. s.now) status.entry))) }
+{
+    put_crumb(out, dossier.shown.row.id)?;
+    put_overtaken(out, entry)?;
+    put_newer(out, seen, dossier.entries.as_slice())?;
+    put_reply_again(out, caller, dossier, text, status)?;
+    put_to_request(out, dossier.shown.row.id)
+}
+
+/// Puts the form for a reply with the last entry of all.
+fn put_reply_again(
+    out: &mut Vec<u8>,
+    caller: &str,
+    dossier: &Dossier,
+    text: &str,
+    status: Option<&str>,
+) -> Result<(), AllocError>
+    ensures { OnOk result (out.new.items ≡ out.old.items ++ page_bytes (form.reply_again caller.now
+        dossier.now text.now (option_map (λ s. s.now) status.entry))) }
+{
+    let seen = last_number(dossier.entries.as_slice());
+    put_reply_form(out, dossier.shown.row.id, caller, seen, text, status, true)
 }
 
 /// Puts who made an entry meanwhile.

@@ -24,7 +24,7 @@ pub enum Unsent {
 }
 
 /// The heading of what is said of it.
-#[tactic(auto, unfolding(crate::specs::Unsent::other_heading, crate::specs::Unsent::own_heading, crate::specs::Unsent::ahead_heading))]
+#[tactic(auto, unfolding(crate::specs::Unsent::other_heading, crate::specs::Unsent::own_heading))]
 pub(crate) fn title_of(why: &Unsent) -> &'static str
     ensures { result.now ≡ form.title_of why.now }
 {
@@ -32,8 +32,16 @@ pub(crate) fn title_of(why: &Unsent) -> &'static str
         Unsent::Refused(refusal) => heading_of(refusal),
         Unsent::OtherPerson(_) => "This form was another person’s",
         Unsent::SignedIn => "You are signed in",
-        Unsent::Ahead => "Your reply wasn’t sent yet",
+        Unsent::Ahead => ahead_heading(),
     }
+}
+
+/// The heading of what is said of a reply that waits.
+#[tactic(auto, unfolding(crate::specs::Unsent::ahead_heading))]
+pub(crate) fn ahead_heading() -> &'static str
+    ensures { result.now ≡ form.ahead_heading }
+{
+    "Your reply wasn’t sent yet"
 }
 
 /// Puts what is said of it to a caller.

@@ -1,5 +1,5 @@
 //! A reply that somebody overtook, and what is told of a text that isn't sent.
-ghost use Rattle.std.specs.Prelude.{◌≡◌, IfOk, Some};
+ghost use Rattle.std.specs.Prelude.{◌≡◌, IfOk, Ok};
 ghost use Rattle.std.specs.Option.{option_map};
 ghost use Rattle.page_wire.specs.Overtaken as form;
 ghost use Rattle.page_wire.specs.Redirect.{led_by};
