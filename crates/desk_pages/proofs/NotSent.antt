@@ -1,5 +1,5 @@
 -- The markup of the pages of forms that weren't sent.
-use Rattle.std.proofs.Common.{◌≡◌, ℕ, Bool, true, not, List, [], ◌∷◌, Option, Some, is_some, refl, ap}
+use Rattle.std.proofs.Common.{◌≡◌, ℕ, Bool, true, not, List, [], ◌∷◌, Option, is_some, refl, ap}
 use Rattle.page_core.specs.Markup.{SameMarkup}
 use Rattle.page_core.specs.Page.{Part}
 use Rattle.page_core.specs.Template.{through}
@@ -15,7 +15,7 @@ use Rattle.desk_pages.specs.declared.markup.refused.TheConstants.{CRUMB, NOTE, N
 use Rattle.desk_pages.specs.declared.markup.refused.TheConstants.{TO_QUEUES, TO_REQUEST}
 use Rattle.desk_pages.specs.declared.markup.refused.TheConstants.{TYPED_END, TYPED_TOP}
 use Rattle.desk_pages.specs.declared.unsent.Unsent.{Unsent}
-use Rattle.desk_pages.specs.declared.unsent.Unsent.TheVariants.{Refused, OtherPerson, SignedIn}
+use Rattle.desk_pages.specs.declared.unsent.Unsent.TheVariants.{Refused}
 use Rattle.desk_model.specs.declared.refusal.Refusal.{Refusal}
 use Rattle.desk_pages.proofs.Asks.{same_ask_again}
 use Rattle.desk_pages.proofs.Frames.{same_bottom, same_top}

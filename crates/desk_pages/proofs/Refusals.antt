@@ -1,5 +1,5 @@
 -- The markup of the pages of refusals.
-use Rattle.std.proofs.Common.{◌≡◌, ℕ, Bool, false, List, [], ◌∷◌, None, Some, refl, ap}
+use Rattle.std.proofs.Common.{◌≡◌, ℕ, false, List, None, Some, refl, ap}
 use Rattle.desk_model.specs.declared.refusal.Refusal.{Refusal}
 use Rattle.page_core.specs.Markup.{SameMarkup}
 use Rattle.page_core.specs.Template.{through}
