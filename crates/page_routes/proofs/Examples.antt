@@ -568,15 +568,15 @@ post target body =
     record { method = codes "POST"; target = target; token = None; body = body }
 
 post_of_a_token_that_is_not_known :
-    (settings : Settings) → sessions.signed_in settings (codes "x") 1000 Day ≡ None
-    → is_wrong_token false settings 1000 (post (codes "/sign-in") (codes "token=x&next=/"))
+    (settings : Settings) → sessions.signed_in settings (codes "x") 29546970 Day ≡ None
+    → is_wrong_token false settings 29546970 (post (codes "/sign-in") (codes "token=x&next=/"))
     (from (codes "same-origin")) ≡ true
 unfolding chars encode is_utf8
 post_of_a_token_that_is_not_known settings e = rw e refl
 
 post_of_a_token_that_is_known :
-    (settings : Settings) → sessions.signed_in settings (codes "x") 1000 Day ≡ Some (codes "ann.1720.0a")
-    → is_wrong_token false settings 1000 (post (codes "/sign-in") (codes "token=x&next=/"))
+    (settings : Settings) → sessions.signed_in settings (codes "x") 29546970 Day ≡ Some (codes "ann.1720.0a")
+    → is_wrong_token false settings 29546970 (post (codes "/sign-in") (codes "token=x&next=/"))
     (from (codes "same-origin")) ≡ false
 unfolding chars encode is_utf8
 post_of_a_token_that_is_known settings e = rw e refl
@@ -584,11 +584,19 @@ post_of_a_token_that_is_known settings e = rw e refl
 -- whatever the token is
 post_of_a_token_from_another_site :
     (settings : Settings)
-    → is_wrong_token false settings 1000 (post (codes "/sign-in") (codes "token=x&next=/"))
+    → is_wrong_token false settings 29546970 (post (codes "/sign-in") (codes "token=x&next=/"))
     (from (codes "cross-site")) ≡ false
 post_of_a_token_from_another_site settings = refl
 
 post_elsewhere :
     (settings : Settings)
-    → is_wrong_token false settings 1000 (post (codes "/sign-out") []) (from (codes "same-origin")) ≡ false
+    → is_wrong_token false settings 29546970 (post (codes "/sign-out") []) (from (codes "same-origin")) ≡ false
 post_elsewhere settings = refl
+
+-- no session begins where the clock shows no moment of the desk
+post_of_a_token_at_no_moment :
+    (settings : Settings)
+    → is_wrong_token false settings 1000 (post (codes "/sign-in") (codes "token=x&next=/"))
+    (from (codes "same-origin")) ≡ false
+unfolding chars encode is_utf8
+post_of_a_token_at_no_moment settings = refl
