@@ -20,6 +20,8 @@ use Rattle.desk_model.specs.declared.answer.Links.{Links}
 use Rattle.desk_model.specs.declared.answer.Load.{Load}
 use Rattle.desk_model.specs.declared.answer.Shown.{Shown}
 use Rattle.desk_model.specs.declared.refusal.Refusal.TheVariants as refusal
+use Rattle.desk_model.specs.declared.rows.Entry.{Entry}
+use Rattle.desk_model.specs.declared.rows.EntryKind.{EntryKind}
 use Rattle.desk_model.specs.declared.rows.EntryKind.TheVariants as kind
 use Rattle.desk_model.specs.declared.rows.RequestRow.{RequestRow}
 use Rattle.desk_model.specs.declared.rows.Turn.TheVariants.{Desk}
@@ -35,11 +37,12 @@ use Rattle.desk_pages.specs.Change.{change}
 use Rattle.desk_pages.specs.Chips.{chip, chip_beside}
 use Rattle.desk_pages.specs.Facts.{facts}
 use Rattle.desk_pages.specs.Frame.{bare_bottom, bare_top}
-use Rattle.desk_pages.specs.History.{history, telling}
+use Rattle.desk_pages.specs.History.{history, last_number, newer_entries, telling}
 use Rattle.desk_pages.specs.Home.{lists, section}
 use Rattle.desk_pages.specs.Lists.{link_row, members, others}
 use Rattle.desk_pages.specs.Moves.{closing_after, closings, folded, may_go, offer}
 use Rattle.desk_pages.specs.Owner.{owner_form}
+use Rattle.desk_pages.specs.Overtaken.{deed_of, overtaken}
 use Rattle.desk_pages.specs.Owners.{suggested}
 use Rattle.desk_pages.specs.Paging.{first_of, last_of, paging, paging_told, ways}
 use Rattle.desk_pages.specs.Pieces.{choice, is_filled, quote, table_end, time_or_dash}
@@ -52,7 +55,7 @@ use Rattle.desk_pages.specs.Rows.{asking, cells, late_by, row, row_end, row_told
 use Rattle.desk_pages.specs.Search.{chosen_in, search_form}
 use Rattle.desk_pages.specs.SignIn.{kept, sign_in_page}
 use Rattle.desk_pages.specs.Sought.{heading_of, is_told, place_of, title_of, told}
-use Rattle.desk_pages.specs.Unsent.{other_heading, other_note, said_of}
+use Rattle.desk_pages.specs.Unsent.{ahead_heading, ahead_note, other_heading, other_note, said_of}
 use Rattle.desk_pages.specs.Workload.{late_told, most}
 use Rattle.desk_pages.specs.Write.{move_too, reply}
 use Rattle.desk_pages.specs.declared.frame.Place.TheVariants as at
@@ -104,12 +107,13 @@ unfolding filled_from other_heading other_note
 form_of_another_person = refl
 
 text_that_comes_along :
-    page_bytes (kept [] (codes "ann") (codes "a\"b") [])
+    page_bytes (kept [] (codes "ann") 12 (codes "a\"b") [])
     ≡ codes "<input type=\"hidden\" name=\"subject\" value=\"\">\n"
     ++ codes "<input type=\"hidden\" name=\"requestors\" value=\"ann\">\n"
+    ++ codes "<input type=\"hidden\" name=\"seen\" value=\"12\">\n"
     ++ codes "<input type=\"hidden\" name=\"text\" value=\"a&quot;b\">\n"
     ++ codes "<input type=\"hidden\" name=\"status\" value=\"\">\n"
-unfolding filled_from
+unfolding digits filled_from
 text_that_comes_along = refl
 
 nothing_is_filled : is_filled {X = ℕ} [] ≡ false
@@ -447,10 +451,64 @@ another_persons_is_stolen = refl
 
 -- a text that was typed stands there once more, and the status is ticked
 reply_that_was_typed :
-    page_bytes (typed (reply 3 (codes "bob") (codes "<b>") (Some (codes "resolved")) true))
-    ≡ codes "<div class=\"write\">\n<form method=\"post\" action=\"/desk/requests/3/reply\">\n<input type=\"hidden\" name=\"me\" value=\"bob\">\n<label for=\"text\">Reply, to all who may see the request</label>\n<textarea id=\"text\" name=\"text\" rows=\"5\" dir=\"auto\" required>\n&lt;b&gt;</textarea>\n<label class=\"line\"><input type=\"checkbox\" name=\"status\" checked value=\"resolved\"> and make it resolved</label>\n<button>Reply</button>\n</form>\n</div>\n"
+    page_bytes (typed (reply 3 (codes "bob") 7 (codes "<b>") (Some (codes "resolved")) true))
+    ≡ codes "<div class=\"write\">\n<form method=\"post\" action=\"/desk/requests/3/reply\">\n<input type=\"hidden\" name=\"me\" value=\"bob\">\n<input type=\"hidden\" name=\"seen\" value=\"7\">\n<label for=\"text\">Reply, to all who may see the request</label>\n<textarea id=\"text\" name=\"text\" rows=\"5\" dir=\"auto\" required>\n&lt;b&gt;</textarea>\n<label class=\"line\"><input type=\"checkbox\" name=\"status\" checked value=\"resolved\"> and make it resolved</label>\n<button>Reply</button>\n</form>\n</div>\n"
 unfolding digits filled_from move_too reply
 reply_that_was_typed = refl
+
+-- ---- what came meanwhile
+
+-- entry `number` of request 3, by eve
+abbrev made : ℕ → EntryKind → Entry
+made number of =
+    record {
+      id = 3;
+      number = number;
+      moment = 0;
+      actor = codes "eve";
+      kind = of;
+      head = codes "new";
+      body = codes "open";
+    }
+
+abbrev three : List Entry
+three = made 1 kind.Create ∷ made 2 kind.Reply ∷ made 4 kind.Status ∷ []
+
+-- the third isn't told
+number_of_the_last_entry : last_number three ≡ 4
+number_of_the_last_entry = refl
+
+no_entry_has_no_number : last_number [] ≡ 0
+no_entry_has_no_number = refl
+
+entries_behind_the_first : newer_entries 1 three ≡ made 2 kind.Reply ∷ made 4 kind.Status ∷ []
+entries_behind_the_first = refl
+
+entries_behind_one_that_is_not_told : newer_entries 3 three ≡ made 4 kind.Status ∷ []
+entries_behind_one_that_is_not_told = refl
+
+entries_behind_the_last : newer_entries 4 three ≡ []
+entries_behind_the_last = refl
+
+somebody_wrote : deed_of kind.Reply ≡ codes "wrote"
+somebody_wrote = refl
+
+somebody_moved_it : deed_of kind.Status ≡ codes "changed it"
+somebody_moved_it = refl
+
+reply_that_was_overtaken :
+    page_bytes (overtaken (made 4 kind.Status))
+    ≡ codes "<h1>eve changed it while you were writing</h1>\n<p class=\"alert\">Your reply wasn" ++ quote
+    ++ codes "t sent yet. Read what came meanwhile, and send it all the same, or change it.</p>\n"
+unfolding filled_from overtaken
+reply_that_was_overtaken = refl
+
+form_that_is_ahead :
+    page_bytes ahead_note
+    ≡ codes "<h1>Your reply wasn" ++ quote ++ codes "t sent yet</h1>\n<p class=\"alert\">The history doesn"
+    ++ quote ++ codes "t go as far as this form says. Look at the request, and press the button.</p>\n"
+unfolding ahead_heading ahead_note filled_from
+form_that_is_ahead = refl
 
 -- ---- what is told of a refusal
 
@@ -666,7 +724,7 @@ dossier =
 acts_of_its_requestor :
     (settings : Settings) → people_of settings ≡ people
     → request_acts 3 (codes "ann") settings dossier
-    ≡ writing 3 (codes "ann") None true false ++ change (codes "ann") settings dossier
+    ≡ writing 3 (codes "ann") 0 None true false ++ change (codes "ann") settings dossier
 unfolding comment_on_ticket holds is_member leads_within reply_to_ticket super_user
 acts_of_its_requestor settings e = rw e refl
 

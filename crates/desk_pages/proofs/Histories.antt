@@ -6,8 +6,8 @@ use Rattle.desk_model.specs.declared.rows.EntryKind.TheVariants as kind
 use Rattle.page_core.specs.Markup.{SameMarkup}
 use Rattle.page_core.specs.Template.{through}
 use Rattle.page_core.proofs.Same.{same_both, same_filled, same_none, same_rows}
-use Rattle.desk_pages.specs.History.{entry, entry_moment, head, history, kinds_told, telling}
-use Rattle.desk_pages.specs.History.{text_of}
+use Rattle.desk_pages.specs.History.{entry, entry_moment, head, history, kinds_told, newer}
+use Rattle.desk_pages.specs.History.{newer_entries, telling, text_of}
 use Rattle.desk_pages.specs.declared.markup.history.TheConstants as markup
 
 same_head : (e f : Entry) → SameMarkup (head e) (head f)
@@ -58,3 +58,13 @@ same_history entries others same =
     same_both (same_filled markup.HISTORY_TOP.now refl _ _ _)
     (same_both (same_rows entry entry (λ e. e.kind) (λ e. e.kind) same_entry entries others same)
     (same_filled markup.HISTORY_END.now refl _ _ _))
+
+pub same_newer : (seen last : ℕ) (entries others : List Entry)
+    → kinds_told (newer_entries seen entries) ≡ kinds_told (newer_entries last others)
+    → SameMarkup (newer seen entries) (newer last others)
+unfolding through
+same_newer seen last entries others same =
+    same_both (same_filled markup.NEWER_TOP.now refl _ _ _)
+    (same_both (same_rows entry entry (λ e. e.kind) (λ e. e.kind) same_entry
+    (newer_entries seen entries) (newer_entries last others) same)
+    (same_filled markup.NEWER_END.now refl _ _ _))

@@ -13,6 +13,7 @@ pub mod Loads
 pub mod NotSent
 pub mod Notices
 pub mod Offers
+pub mod Overtakings
 pub mod Persons
 pub mod Refusals
 pub mod Requests

@@ -1,5 +1,5 @@
 -- The markup of the pages of forms that weren't sent.
-use Rattle.std.proofs.Common.{◌≡◌, ℕ, Bool, true, not, List, [], ◌∷◌, Option, Some, is_some, refl, ap}
+use Rattle.std.proofs.Common.{◌≡◌, ℕ, Bool, true, not, List, [], ◌∷◌, Option, is_some, refl, ap}
 use Rattle.page_core.specs.Markup.{SameMarkup}
 use Rattle.page_core.specs.Page.{Part}
 use Rattle.page_core.specs.Template.{through}
@@ -9,13 +9,13 @@ use Rattle.desk_pages.specs.RefusalPage.{is_found, typed, typed_page, unsent_ask
 use Rattle.desk_pages.specs.RefusalPage.{unsent_change_page, unsent_comment_page, unsent_page}
 use Rattle.desk_pages.specs.RefusalPage.{unsent_reply_page}
 use Rattle.desk_pages.specs.Refused.{crumb, front_of, is_denied, notice, to_queue, to_request}
-use Rattle.desk_pages.specs.Unsent.{other_note, own_note, said_of, title_of, why_told}
+use Rattle.desk_pages.specs.Unsent.{ahead_note, other_note, own_note, said_of, title_of, why_told}
 use Rattle.desk_pages.specs.declared.frame.Place.TheVariants.{Elsewhere}
 use Rattle.desk_pages.specs.declared.markup.refused.TheConstants.{CRUMB, NOTE, NOTICE, TO_QUEUE}
 use Rattle.desk_pages.specs.declared.markup.refused.TheConstants.{TO_QUEUES, TO_REQUEST}
 use Rattle.desk_pages.specs.declared.markup.refused.TheConstants.{TYPED_END, TYPED_TOP}
 use Rattle.desk_pages.specs.declared.unsent.Unsent.{Unsent}
-use Rattle.desk_pages.specs.declared.unsent.Unsent.TheVariants.{Refused, OtherPerson, SignedIn}
+use Rattle.desk_pages.specs.declared.unsent.Unsent.TheVariants.{Refused}
 use Rattle.desk_model.specs.declared.refusal.Refusal.{Refusal}
 use Rattle.desk_pages.proofs.Asks.{same_ask_again}
 use Rattle.desk_pages.proofs.Frames.{same_bottom, same_top}
@@ -27,39 +27,15 @@ unfolding notice through
 same_notice front words why other same =
     same_flags NOTICE.now refl _ _ _ _ (ap (λ flag. flag ∷ []) same)
 
-same_own : (caller another : List ℕ) → SameMarkup (own_note caller) (own_note another)
-unfolding own_note through
-same_own caller another = same_filled NOTE.now refl _ _ _
-
-same_mixed : (caller another person : List ℕ)
-    → SameMarkup (other_note caller person) (own_note another)
-unfolding other_note own_note through
-same_mixed caller another person = same_filled NOTE.now refl _ _ _
-
-same_turned : (caller another person : List ℕ)
-    → SameMarkup (own_note caller) (other_note another person)
-unfolding other_note own_note through
-same_turned caller another person = same_filled NOTE.now refl _ _ _
-
-same_other : (caller another person stranger : List ℕ)
-    → SameMarkup (other_note caller person) (other_note another stranger)
-unfolding other_note through
-same_other caller another person stranger = same_filled NOTE.now refl _ _ _
-
 same_said : (why other : Unsent) (caller another : List ℕ) → why_told why ≡ why_told other
     → SameMarkup (said_of why caller) (said_of other another)
+unfolding ahead_note other_note own_note through
 same_said (Refused why) (Refused other) caller another same =
     let denied : is_denied why ≡ is_denied other = cc in
     same_notice (front_of why) (front_of other) why other denied
-same_said (Refused why) (OtherPerson person) caller another same = absurd (cc)
-same_said (Refused why) SignedIn caller another same = absurd (cc)
-same_said (OtherPerson person) (Refused other) caller another same = absurd (cc)
-same_said SignedIn (Refused other) caller another same = absurd (cc)
-same_said SignedIn SignedIn caller another same = same_own caller another
-same_said SignedIn (OtherPerson stranger) caller another same = same_turned caller another stranger
-same_said (OtherPerson person) SignedIn caller another same = same_mixed caller another person
-same_said (OtherPerson person) (OtherPerson stranger) caller another same =
-    same_other caller another person stranger
+same_said (Refused why) other caller another same = absurd (cc)
+same_said why (Refused other) caller another same = absurd (cc)
+same_said why other caller another same = same_filled NOTE.now refl _ _ _
 
 pub same_crumb : (id another : ℕ) → SameMarkup (crumb id) (crumb another)
 unfolding crumb through
@@ -115,14 +91,15 @@ same_typed_page why other caller another moment later id n form others told same
     (same_both (same_said why other caller another told)
     (same_both (same_typed same) (same_both (same_to_request id n) (same_bottom moment later)))))
 
-pub unsent_reply_same : (why other : Unsent) (caller another : List ℕ) (moment later id n : ℕ)
-    (text words : List ℕ) (status chosen : Option (List ℕ))
+pub unsent_reply_same : (why other : Unsent) (caller another : List ℕ)
+    (moment later id n seen last : ℕ) (text words : List ℕ) (status chosen : Option (List ℕ))
     → why_told why ≡ why_told other → is_some status ≡ is_some chosen
-    → SameMarkup (unsent_reply_page why caller moment id text status)
-    (unsent_reply_page other another later n words chosen)
-unsent_reply_same why other caller another moment later id n text words status chosen told same =
+    → SameMarkup (unsent_reply_page why caller moment id seen text status)
+    (unsent_reply_page other another later n last words chosen)
+unsent_reply_same why other caller another moment later id n seen last text words status chosen told
+    same =
     same_typed_page why other caller another moment later id n _ _ told
-    (same_reply id n caller another text words status chosen true same)
+    (same_reply id n caller another seen last text words status chosen true same)
 
 pub unsent_comment_same : (why other : Unsent) (caller another : List ℕ) (moment later id n : ℕ)
     (text words : List ℕ) → why_told why ≡ why_told other

@@ -24,12 +24,12 @@ sign_in_same next other refused elsewhere =
     (same_both (same_filled SIGN_IN.now refl _ _ _)
     (same_both (same_filled SIGN_IN_END.now refl _ _ _) same_bare_bottom))
 
-pub kept_same : (next other subject line requestors persons text words status chosen : List ℕ)
-    (refused : Bool)
-    → SameMarkup (kept_page next subject requestors text status refused)
-    (kept_page other line persons words chosen refused)
+pub kept_same : (next other subject line requestors persons : List ℕ) (seen last : ℕ)
+    (text words status chosen : List ℕ) (refused : Bool)
+    → SameMarkup (kept_page next subject requestors seen text status refused)
+    (kept_page other line persons last words chosen refused)
 unfolding through
-kept_same next other subject line requestors persons text words status chosen refused =
+kept_same next other subject line requestors persons seen last text words status chosen refused =
     same_both (same_bare_top (codes "Sign in") (codes "Sign in"))
     (same_both (same_filled SIGN_IN.now refl _ _ _)
     (same_both (same_filled KEPT.now refl _ _ _)

@@ -1,5 +1,5 @@
 -- The markup of the pages of refusals.
-use Rattle.std.proofs.Common.{◌≡◌, ℕ, Bool, false, List, [], ◌∷◌, None, Some, refl, ap}
+use Rattle.std.proofs.Common.{◌≡◌, ℕ, false, List, None, Some, refl, ap}
 use Rattle.desk_model.specs.declared.refusal.Refusal.{Refusal}
 use Rattle.page_core.specs.Markup.{SameMarkup}
 use Rattle.page_core.specs.Template.{through}
@@ -36,7 +36,7 @@ filed_same why other caller another moment later id n text words denied =
     (same_both (same_crumb id n)
     (same_both (same_notice (front_after why) (front_after other) why other denied)
     (same_both (same_filled FILED_NOTE.now refl _ _ _)
-    (same_both (same_typed (same_reply id n caller another text words None None false refl))
+    (same_both (same_typed (same_reply id n caller another 1 1 text words None None false refl))
     (same_both (same_to_request id n) (same_bottom moment later))))))
 
 pub replied_same : (why other : Refusal) (caller another : List ℕ) (moment later id n : ℕ)

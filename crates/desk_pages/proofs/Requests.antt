@@ -7,6 +7,7 @@ use Rattle.desk_model.specs.declared.rows.RequestRow.{RequestRow}
 use Rattle.page_core.specs.Markup.{SameMarkup}
 use Rattle.page_core.specs.Template.{through}
 use Rattle.page_core.proofs.Same.{same_both, same_filled, same_flags}
+use Rattle.desk_pages.specs.History.{last_number}
 use Rattle.desk_pages.specs.Request.{closing_for, request_page, request_title, request_told}
 use Rattle.desk_pages.specs.Request.{commenting, request_top, writing}
 use Rattle.desk_pages.specs.Rights.{may_comment, may_modify, may_reply}
@@ -32,15 +33,17 @@ same_commenting id another caller person replies now same =
     same_both (same_flags COMMENT_TOP.now refl _ _ _ _ (ap (λ flag. not flag ∷ flag ∷ []) same))
     (same_both (same_comment id another caller person [] []) (same_filled COMMENT_END.now refl _ _ _))
 
-same_writing : (id another : ℕ) (caller person : List ℕ) (status other : Option (List ℕ)) (replies now comments too : Bool)
+same_writing : (id another : ℕ) (caller person : List ℕ) (seen last : ℕ)
+    (status other : Option (List ℕ)) (replies now comments too : Bool)
     → is_some status ≡ is_some other → replies ≡ now → comments ≡ too
-    → SameMarkup (writing id caller status replies comments)
-    (writing another person other now too)
+    → SameMarkup (writing id caller seen status replies comments)
+    (writing another person last other now too)
 unfolding writing through
-same_writing id another caller person status other replies now comments too same reply comment =
+same_writing id another caller person seen last status other replies now comments too same reply
+    comment =
     same_both (same_filled REPLY_TOP.now refl _ _ _)
-    (same_both (same_when replies now _ _ reply (same_reply id another caller person [] [] status
-    other false same))
+    (same_both (same_when replies now _ _ reply (same_reply id another caller person seen last [] []
+    status other false same))
     (same_both (same_when comments too _ _ comment (same_commenting id another caller person
     replies now reply))
     (same_flags WRITING_END.now refl _ _ _ _
@@ -65,7 +68,8 @@ request_same caller other moment later settings rules dossier file same =
     (may_modify rules file.shown other) row.id line.id caller other moment later settings rules dossier file
     (ap (λ told. told.modifies) same) (ap (λ told. told.facts) same))
     (same_history dossier.entries file.entries (ap (λ told. told.kinds) same))))
-    (same_both (same_writing row.id line.id caller other (closing_for caller settings dossier)
+    (same_both (same_writing row.id line.id caller other (last_number dossier.entries)
+    (last_number file.entries) (closing_for caller settings dossier)
     (closing_for other rules file) (may_reply settings dossier.shown caller)
     (may_reply rules file.shown other) (may_comment settings dossier.shown caller)
     (may_comment rules file.shown other) (ap (λ told. told.closing) same)

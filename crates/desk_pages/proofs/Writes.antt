@@ -15,12 +15,12 @@ same_move_too None (Some other) ticked same = never same
 same_move_too (Some status) None ticked same = nowhere same
 same_move_too (Some status) (Some other) ticked same = same_filled MOVE_TOO.now refl _ _ _
 
-pub same_reply : (id another : ℕ) (caller person text words : List ℕ) (status other : Option (List ℕ))
-    (ticked : Bool) → is_some status ≡ is_some other
-    → SameMarkup (reply id caller text status ticked)
-    (reply another person words other ticked)
+pub same_reply : (id another : ℕ) (caller person : List ℕ) (seen last : ℕ) (text words : List ℕ)
+    (status other : Option (List ℕ)) (ticked : Bool) → is_some status ≡ is_some other
+    → SameMarkup (reply id caller seen text status ticked)
+    (reply another person last words other ticked)
 unfolding reply through
-same_reply id another caller person text words status other ticked same =
+same_reply id another caller person seen last text words status other ticked same =
     same_both (same_filled REPLY.now refl _ _ _)
     (same_both (same_move_too status other ticked same) (same_filled REPLY_END.now refl _ _ _))
 

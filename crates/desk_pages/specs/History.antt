@@ -1,6 +1,6 @@
 -- The history of a request: an entry for each thing that happened.
-use Rattle.std.specs.Prelude.{ℕ, List, [], ◌∷◌, ◌++◌, decimal, map}
-use Rattle.std.specs.List.{flat_map}
+use Rattle.std.specs.Prelude.{ℕ, nat_lt, Bool, List, [], ◌∷◌, ◌++◌, decimal, map}
+use Rattle.std.specs.List.{filter, flat_map, fold}
 use Rattle.desk_model.specs.declared.rows.Entry.{Entry}
 use Rattle.desk_model.specs.declared.rows.EntryKind.{EntryKind}
 use Rattle.desk_model.specs.declared.rows.EntryKind.TheVariants as kind
@@ -52,6 +52,24 @@ abbrev pub history : List Entry → List Part
 history entries =
     filled markup.HISTORY_TOP.now [] []
     ++ (flat_map entry entries ++ filled markup.HISTORY_END.now [] [])
+
+-- the number of the last entry, and 0 where there is none
+abbrev pub last_number : List Entry → ℕ
+last_number entries = fold (λ last e. e.number) 0 entries
+
+-- an entry behind the one of this number
+abbrev pub is_newer : ℕ → Entry → Bool
+is_newer seen e = nat_lt seen e.number
+
+-- those that one hasn't seen who has seen the entries up to this number
+abbrev pub newer_entries : ℕ → List Entry → List Entry
+newer_entries seen entries = filter (is_newer seen) entries
+
+-- what came meanwhile
+abbrev pub newer : ℕ → List Entry → List Part
+newer seen entries =
+    filled markup.NEWER_TOP.now [] []
+    ++ (flat_map entry (newer_entries seen entries) ++ filled markup.NEWER_END.now [] [])
 
 -- what the markup tells: the kinds of the entries
 abbrev pub kinds_told : List Entry → List EntryKind

@@ -12,6 +12,7 @@ pub mod Lists
 pub mod Local
 pub mod Moves
 pub mod New
+pub mod Overtaken
 pub mod Owner
 pub mod Owners
 pub mod Paging

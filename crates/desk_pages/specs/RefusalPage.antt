@@ -48,10 +48,10 @@ typed_page why caller moment id form =
     ++ (crumb id
     ++ (said_of why caller ++ (typed form ++ (to_request id ++ bottom moment))))
 
--- and the status that was chosen
-abbrev pub unsent_reply_page : Unsent → List ℕ → ℕ → ℕ → List ℕ → Option (List ℕ) → List Part
-unsent_reply_page why caller moment id text status =
-    typed_page why caller moment id (reply id caller text status true)
+-- and the status that was chosen, with the number of the last entry that the caller has seen
+abbrev pub unsent_reply_page : Unsent → List ℕ → ℕ → ℕ → ℕ → List ℕ → Option (List ℕ) → List Part
+unsent_reply_page why caller moment id seen text status =
+    typed_page why caller moment id (reply id caller seen text status true)
 
 abbrev pub unsent_comment_page : Unsent → List ℕ → ℕ → ℕ → List ℕ → List Part
 unsent_comment_page why caller moment id text =
@@ -69,14 +69,14 @@ unsent_ask_page why caller moment queue subject text requestors status =
 
 -- ---- of two commands the second is refused
 
--- a new request is filed, and its text is refused: the form has it
+-- a new request is filed, which is its first entry, and its text is refused: the form has it
 abbrev pub filed_page : Refusal → List ℕ → ℕ → ℕ → List ℕ → List Part
 filed_page why caller moment id text =
     top (heading_of why) place.Elsewhere caller
     ++ (crumb id
     ++ (notice_after why
     ++ (filled FILED_NOTE.now (decimal id ∷ []) []
-    ++ (typed (reply id caller text None false) ++ (to_request id ++ bottom moment)))))
+    ++ (typed (reply id caller 1 text None false) ++ (to_request id ++ bottom moment)))))
 
 -- a reply is sent, and the move to this status is refused
 abbrev pub replied_page : Refusal → List ℕ → ℕ → ℕ → List ℕ → List Part

@@ -13,7 +13,7 @@ use Rattle.page_core.specs.Template.{filled}
 use Rattle.desk_pages.specs.Change.{ChangeTold, change, change_told, is_open}
 use Rattle.desk_pages.specs.Facts.{FactsTold, facts, facts_told}
 use Rattle.desk_pages.specs.Frame.{bottom, top}
-use Rattle.desk_pages.specs.History.{history, kinds_told}
+use Rattle.desk_pages.specs.History.{history, kinds_told, last_number}
 use Rattle.desk_pages.specs.Moves.{closing_after}
 use Rattle.desk_pages.specs.Pieces.{parts_if}
 use Rattle.desk_pages.specs.Rights.{may_comment, may_modify, may_reply}
@@ -45,11 +45,12 @@ commenting id caller replies =
     filled COMMENT_TOP.now [] (not replies ∷ replies ∷ [])
     ++ (comment id caller [] ++ filled COMMENT_END.now [] [])
 
--- what a caller may write to the request of this number: a reply, a comment, or nothing
-unfoldable pub writing : ℕ → List ℕ → Option (List ℕ) → Bool → Bool → List Part
-writing id caller status replies comments =
+-- what a caller who has seen the entries up to a number may write to the request of this number: a
+-- reply, a comment, or nothing
+unfoldable pub writing : ℕ → List ℕ → ℕ → Option (List ℕ) → Bool → Bool → List Part
+writing id caller seen status replies comments =
     filled REPLY_TOP.now [] []
-    ++ (parts_if replies (reply id caller [] status false)
+    ++ (parts_if replies (reply id caller seen [] status false)
     ++ (parts_if comments (commenting id caller replies)
     ++ filled WRITING_END.now [] ((not replies && not comments) ∷ [])))
 
@@ -63,8 +64,8 @@ request_shown id caller moment settings dossier =
 -- what may be done with it
 abbrev pub request_acts : ℕ → List ℕ → Settings → Dossier → List Part
 request_acts id caller settings dossier =
-    writing id caller (closing_for caller settings dossier) (may_reply settings dossier.shown caller)
-    (may_comment settings dossier.shown caller)
+    writing id caller (last_number dossier.entries) (closing_for caller settings dossier)
+    (may_reply settings dossier.shown caller) (may_comment settings dossier.shown caller)
     ++ change caller settings dossier
 
 -- the content of the page

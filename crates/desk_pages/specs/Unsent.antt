@@ -6,7 +6,7 @@ use Rattle.desk_pages.specs.Pieces.{quote}
 use Rattle.desk_pages.specs.Refused.{heading_of, is_denied, notice_of}
 use Rattle.desk_pages.specs.declared.markup.refused.TheConstants.{NOTE}
 use Rattle.desk_pages.specs.declared.unsent.Unsent.{Unsent}
-use Rattle.desk_pages.specs.declared.unsent.Unsent.TheVariants.{Refused, OtherPerson, SignedIn}
+use Rattle.desk_pages.specs.declared.unsent.Unsent.TheVariants.{Refused, OtherPerson, SignedIn, Ahead}
 
 -- it stood on another person's page
 unfoldable pub other_heading : List ℕ
@@ -29,16 +29,29 @@ own_note caller =
     ∷ codes ", but nothing was sent yet. Look at what you typed, and press the button."
     ∷ [] ∷ [] ∷ []) []
 
+-- it tells of an entry that its page didn't show
+unfoldable pub ahead_heading : List ℕ
+ahead_heading = codes "Your reply wasn" ++ (quote ++ codes "t sent yet")
+
+unfoldable pub ahead_note : List Part
+ahead_note =
+    filled NOTE.now
+    (ahead_heading
+    ∷ (codes "The history doesn" ++ (quote ++ codes "t go as far as this form says. Look at the request, and press the button."))
+    ∷ [] ∷ [] ∷ [] ∷ [] ∷ []) []
+
 -- the heading, and what is said to a caller
 abbrev pub title_of : Unsent → List ℕ
 title_of (Refused refusal) = heading_of refusal
 title_of (OtherPerson person) = other_heading
 title_of SignedIn = own_heading
+title_of Ahead = ahead_heading
 
 abbrev pub said_of : Unsent → List ℕ → List Part
 said_of (Refused refusal) caller = notice_of refusal
 said_of (OtherPerson person) caller = other_note caller person
 said_of SignedIn caller = own_note caller
+said_of Ahead caller = ahead_note
 
 -- what the markup tells: whether the desk refused it, and then whether a right is lacking
 abbrev pub why_told : Unsent → Option Bool

@@ -9,10 +9,11 @@ unfoldable pub move_too : Option (List ℕ) → Bool → List Part
 move_too None ticked = []
 move_too (Some status) ticked = filled MOVE_TOO.now (status ∷ status ∷ []) (ticked ∷ [])
 
--- a caller's form for a reply, with a text, and with a status that is offered
-unfoldable pub reply : ℕ → List ℕ → List ℕ → Option (List ℕ) → Bool → List Part
-reply id caller text status ticked =
-    filled REPLY.now (decimal id ∷ caller ∷ text ∷ []) []
+-- a caller's form for a reply, with the number of the last entry that the caller has seen, with a text,
+-- and with a status that is offered
+unfoldable pub reply : ℕ → List ℕ → ℕ → List ℕ → Option (List ℕ) → Bool → List Part
+reply id caller seen text status ticked =
+    filled REPLY.now (decimal id ∷ caller ∷ decimal seen ∷ text ∷ []) []
     ++ (move_too status ticked ++ filled REPLY_END.now [] [])
 
 -- a caller's form for a comment, with a text

@@ -14,7 +14,7 @@ use page_core::{Value, fill};
 use std::alloc::{AllocError, Global};
 
 /// The page for a caller at a moment whose new request is filed, with this number, but whose text
-/// was refused: it says so, and the form for a reply has the text.
+/// was refused: it says so, and the form for a reply has the text. The first entry is the filing.
 pub fn filed_page(
     alloc: Global,
     refusal: &Refusal,
@@ -31,7 +31,7 @@ pub fn filed_page(
     put_crumb(&mut out, id)?;
     put_refusal_after(&mut out, refusal)?;
     fill(&mut out, FILED_NOTE, &[Value::Number(id)], &[])?;
-    put_reply_form(&mut out, id, caller, text, None, false)?;
+    put_reply_form(&mut out, id, caller, 1, text, None, false)?;
     put_to_request(&mut out, id)?;
     put_bottom(&mut out, moment)?;
     Ok(out)

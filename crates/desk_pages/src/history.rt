@@ -7,7 +7,8 @@ ghost use Rattle.desk_pages.specs.History as form;
 
 use crate::markup::history::{
     COMMENTED, ENTRY, ENTRY_END, ENTRY_TIME, FILED, HISTORY_END, HISTORY_TOP, LEVEL_CHANGED,
-    LINKED, MOVED, OWNER_CHANGED, PUT_IN, REPLIED, TAKEN_OUT, UNLINKED, WRITTEN,
+    LINKED, MOVED, NEWER_END, NEWER_TOP, OWNER_CHANGED, PUT_IN, REPLIED, TAKEN_OUT, UNLINKED,
+    WRITTEN,
 };
 use desk_model::{Entry, EntryKind};
 use hours_core::Minute;
@@ -22,6 +23,39 @@ pub(crate) fn put_history(out: &mut Vec<u8>, entries: &[Entry]) -> Result<(), Al
     fill(out, HISTORY_TOP, &[], &[])?;
     put_entries(out, entries)?;
     fill(out, HISTORY_END, &[], &[])
+}
+
+/// Puts the entries behind the one of this number, as what came meanwhile.
+pub(crate) fn put_newer(out: &mut Vec<u8>, seen: u32, entries: &[Entry]) -> Result<(), AllocError>
+    ensures { OnOk result (out.new.items
+        ≡ out.old.items ++ page_bytes (form.newer seen entries.now)) }
+{
+    fill(out, NEWER_TOP, &[], &[])?;
+    put_newer_entries(out, seen, entries)?;
+    fill(out, NEWER_END, &[], &[])
+}
+
+fn put_newer_entries(out: &mut Vec<u8>, seen: u32, entries: &[Entry]) -> Result<(), AllocError>
+    ensures { OnOk result (out.new.items ≡ out.old.items
+        ++ page_bytes (flat_map form.entry (form.newer_entries seen entries.now))) }
+{
+    for entry in entries {
+        if entry.number > seen {
+            put_entry(out, entry)?;
+        }
+    }
+    Ok(())
+}
+
+/// The number of the last of these entries, and 0 where there is none.
+pub fn last_number(entries: &[Entry]) -> u32
+    ensures { result ≡ form.last_number entries.now }
+{
+    let mut last = 0;
+    for entry in entries {
+        last = entry.number;
+    }
+    last
 }
 
 fn put_entries(out: &mut Vec<u8>, entries: &[Entry]) -> Result<(), AllocError>

@@ -6,6 +6,7 @@ ghost use Rattle.settings_core.specs.declared.settings.Settings.{Settings};
 ghost use Rattle.desk_model.specs.declared.answer.Dossier.{Dossier};
 ghost use Rattle.desk_model.specs.declared.answer.Load.{Load};
 ghost use Rattle.desk_model.specs.declared.refusal.Refusal.{Refusal};
+ghost use Rattle.desk_model.specs.declared.rows.Entry.{Entry};
 ghost use Rattle.find_core.specs.declared.loads.QueueLoad.{QueueLoad};
 ghost use Rattle.find_core.specs.declared.search.Findings.{Findings};
 ghost use Rattle.find_form.specs.declared.form.FindForm.{FindForm};
@@ -15,8 +16,10 @@ ghost use Rattle.page_core.specs.Markup.{SameMarkup};
 ghost use Rattle.desk_pages.specs.Ask.{usual_told};
 ghost use Rattle.desk_pages.specs.Fault.{fault_page};
 ghost use Rattle.desk_pages.specs.Find.{find_fault_page, find_page, found_told};
+ghost use Rattle.desk_pages.specs.History.{kinds_told, newer_entries};
 ghost use Rattle.desk_pages.specs.Home.{home_page, home_told};
 ghost use Rattle.desk_pages.specs.New.{new_page};
+ghost use Rattle.desk_pages.specs.Overtaken.{overtaken_page};
 ghost use Rattle.desk_pages.specs.RefusalPage.{
   filed_page,
   is_found,
@@ -79,10 +82,10 @@ pub fn home_page_law()
 pub fn sign_in_page_law()
     ensures plain { (next other : List ℕ) (refused elsewhere : Bool)
         → SameMarkup (sign_in_page next refused elsewhere) (sign_in_page other refused elsewhere) }
-    ensures kept { (next other subject line requestors persons text words status chosen : List ℕ)
-        (refused : Bool)
-        → SameMarkup (kept_page next subject requestors text status refused)
-        (kept_page other line persons words chosen refused) }
+    ensures kept { (next other subject line requestors persons : List ℕ) (seen last : ℕ)
+        (text words status chosen : List ℕ) (refused : Bool)
+        → SameMarkup (kept_page next subject requestors seen text status refused)
+        (kept_page other line persons last words chosen refused) }
 {}
 
 /// The page of a fault has the same markup whatever is wrong.
@@ -127,11 +130,11 @@ pub fn unsent_page_law()
         → why_told why ≡ why_told other
         → SameMarkup (unsent_change_page why caller moment id)
         (unsent_change_page other another later n) }
-    ensures reply { (why other : Unsent) (caller another : List ℕ) (moment later id n : ℕ)
-        (text words : List ℕ) (status chosen : Option (List ℕ))
+    ensures reply { (why other : Unsent) (caller another : List ℕ)
+        (moment later id n seen last : ℕ) (text words : List ℕ) (status chosen : Option (List ℕ))
         → why_told why ≡ why_told other → is_some status ≡ is_some chosen
-        → SameMarkup (unsent_reply_page why caller moment id text status)
-        (unsent_reply_page other another later n words chosen) }
+        → SameMarkup (unsent_reply_page why caller moment id seen text status)
+        (unsent_reply_page other another later n last words chosen) }
     ensures comment { (why other : Unsent) (caller another : List ℕ) (moment later id n : ℕ)
         (text words : List ℕ) → why_told why ≡ why_told other
         → SameMarkup (unsent_comment_page why caller moment id text)
@@ -143,6 +146,18 @@ pub fn unsent_page_law()
         → is_some status ≡ is_some chosen
         → SameMarkup (unsent_ask_page why caller moment queue subject text requestors status)
         (unsent_ask_page other another later place line words persons chosen) }
+{}
+
+/// The page of a reply that somebody overtook tells by its markup the kinds of the entries that came
+/// meanwhile, in their order, and whether a status was chosen; and no more of them, nor of what was typed.
+pub fn overtaken_page_law()
+    ensures { (caller another : List ℕ) (moment later : ℕ) (entry other : Entry)
+        (dossier file : Dossier) (seen last : ℕ) (text words : List ℕ)
+        (status chosen : Option (List ℕ))
+        → kinds_told (newer_entries seen dossier.entries)
+        ≡ kinds_told (newer_entries last file.entries) → is_some status ≡ is_some chosen
+        → SameMarkup (overtaken_page caller moment entry dossier seen text status)
+        (overtaken_page another later other file last words chosen) }
 {}
 
 /// The page of a request tells by its markup whether the request is due, whether it is late, whether

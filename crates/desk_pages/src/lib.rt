@@ -22,6 +22,7 @@ mod local;
 mod markup;
 mod moves;
 mod new;
+mod overtaken;
 mod owner;
 mod owners;
 mod paging;
@@ -45,12 +46,14 @@ pub use fault::fault_page;
 pub use find::{find_fault_page, find_page};
 pub use frame::Place;
 pub use half::{filed_page, replied_page};
+pub use history::last_number;
 pub use home::home_page;
 pub use laws::{
-    fault_page_law, find_page_law, home_page_law, new_page_law, refusal_page_law, request_page_law,
-    sign_in_page_law, unsent_page_law, workload_page_law,
+    fault_page_law, find_page_law, home_page_law, new_page_law, overtaken_page_law,
+    refusal_page_law, request_page_law, sign_in_page_law, unsent_page_law, workload_page_law,
 };
 pub use new::new_page;
+pub use overtaken::overtaken_page;
 pub use refusal::{
     refusal_page, unsent_ask_page, unsent_change_page, unsent_comment_page, unsent_page,
     unsent_reply_page,

@@ -75,25 +75,27 @@ pub fn unsent_change_page(
 }
 
 /// The page of a reply that wasn't sent, for a caller at a moment, with the text that was typed and
-/// the status that was chosen.
+/// the status that was chosen. Its form tells `seen` as the number of the last entry that the caller
+/// has seen.
 pub fn unsent_reply_page(
     alloc: Global,
     why: &Unsent,
     caller: &str,
     moment: Minute,
     id: u32,
+    seen: u32,
     text: &str,
     status: Option<&str>,
 ) -> Result<Vec<u8>, AllocError>
     ensures { IfOk result (λ page. page.items ≡ page_bytes
-        (form.unsent_reply_page why.now caller.now moment id text.now
+        (form.unsent_reply_page why.now caller.now moment id seen text.now
         (option_map (λ s. s.now) status.entry))) }
 {
     let mut out = Vec::new(alloc);
     put_top(&mut out, title_of(why), Place::Elsewhere, caller)?;
     put_crumb(&mut out, id)?;
     put_why(&mut out, why, caller)?;
-    put_reply_form(&mut out, id, caller, text, status, true)?;
+    put_reply_form(&mut out, id, caller, seen, text, status, true)?;
     put_to_request(&mut out, id)?;
     put_bottom(&mut out, moment)?;
     Ok(out)
@@ -121,20 +123,22 @@ pub fn unsent_comment_page(
     Ok(out)
 }
 
-/// Puts the form for a reply, with the text that was typed and the status that was chosen.
+/// Puts the form for a reply, with the number of the last entry that was seen, the text that was typed
+/// and the status that was chosen.
 pub(crate) fn put_reply_form(
     out: &mut Vec<u8>,
     id: u32,
     caller: &str,
+    seen: u32,
     text: &str,
     status: Option<&str>,
     ticked: bool,
 ) -> Result<(), AllocError>
-    ensures { OnOk result (out.new.items ≡ out.old.items ++ page_bytes
-        (form.typed (reply id caller.now text.now (option_map (λ s. s.now) status.entry) ticked))) }
+    ensures { OnOk result (out.new.items ≡ out.old.items ++ page_bytes (form.typed
+        (reply id caller.now seen text.now (option_map (λ s. s.now) status.entry) ticked))) }
 {
     fill(out, TYPED_TOP, &[], &[])?;
-    put_reply(out, id, caller, text, status, ticked)?;
+    put_reply(out, id, caller, seen, text, status, ticked)?;
     fill(out, TYPED_END, &[], &[])
 }
 

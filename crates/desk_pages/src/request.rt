@@ -9,7 +9,7 @@ ghost use Rattle.desk_pages.specs.Write.{reply};
 use crate::change::{is_open, put_change};
 use crate::facts::put_facts;
 use crate::frame::{Place, put_bottom, put_top};
-use crate::history::put_history;
+use crate::history::{last_number, put_history};
 use crate::markup::request::{COMMENT_END, COMMENT_TOP, REPLY_TOP, REQUEST_TOP, WRITING_END};
 use crate::moves::closing_after;
 use crate::rights::{may_comment, may_modify, may_reply};
@@ -103,7 +103,8 @@ fn put_acts(
     let replies = may_reply(settings, &dossier.shown, caller);
     let comments = may_comment(settings, &dossier.shown, caller);
     let status = closing_for(caller, settings, dossier);
-    put_writing(out, id, caller, status, replies, comments)?;
+    let seen = last_number(dossier.entries.as_slice());
+    put_writing(out, id, caller, seen, status, replies, comments)?;
     put_change(alloc, out, caller, settings, dossier)
 }
 
@@ -140,15 +141,16 @@ fn put_writing(
     out: &mut Vec<u8>,
     id: u32,
     caller: &str,
+    seen: u32,
     status: Option<&str>,
     replies: bool,
     comments: bool,
 ) -> Result<(), AllocError>
     ensures { OnOk result (out.new.items ≡ out.old.items ++ page_bytes
-        (form.writing id caller.now (option_map (λ s. s.now) status.entry) replies comments)) }
+        (form.writing id caller.now seen (option_map (λ s. s.now) status.entry) replies comments)) }
 {
     fill(out, REPLY_TOP, &[], &[])?;
-    put_replying(out, id, caller, status, replies)?;
+    put_replying(out, id, caller, seen, status, replies)?;
     put_commenting(out, id, caller, replies, comments)?;
     fill(out, WRITING_END, &[], &[!replies && !comments])
 }
@@ -158,14 +160,15 @@ fn put_replying(
     out: &mut Vec<u8>,
     id: u32,
     caller: &str,
+    seen: u32,
     status: Option<&str>,
     replies: bool,
 ) -> Result<(), AllocError>
-    ensures { OnOk result (out.new.items ≡ out.old.items ++ page_bytes
-        (parts_if replies (reply id caller.now [] (option_map (λ s. s.now) status.entry) false))) }
+    ensures { OnOk result (out.new.items ≡ out.old.items ++ page_bytes (parts_if replies
+        (reply id caller.now seen [] (option_map (λ s. s.now) status.entry) false))) }
 {
     if replies {
-        put_reply(out, id, caller, "", status, false)
+        put_reply(out, id, caller, seen, "", status, false)
     } else {
         Ok(())
     }

@@ -29,35 +29,43 @@ pub fn sign_in_page(
 }
 
 /// The page on which one signs in after a form that wasn't sent, which leads to that form at `next`
-/// with what was typed into it and the status that was chosen. `refused` says that the token wasn't
-/// known.
+/// with what was typed into it, the status that was chosen, and the number of the last entry that was
+/// seen. `refused` says that the token wasn't known.
 pub fn kept_page(
     alloc: Global,
     next: &str,
     typed: Typed<'_>,
+    seen: u32,
     status: &str,
     refused: bool,
 ) -> Result<Vec<u8>, AllocError>
     ensures { IfOk result (λ page. page.items ≡ page_bytes (form.kept_page next.now
-        typed.entry.subject.now typed.entry.requestors.now typed.entry.text.now status.now refused)) }
+        typed.entry.subject.now typed.entry.requestors.now seen typed.entry.text.now status.now
+        refused)) }
 {
     let mut out = Vec::new(alloc);
     put_bare_top(&mut out, "Sign in")?;
     fill(&mut out, SIGN_IN, &[Value::Text(next)], &[refused, true])?;
-    put_kept(&mut out, typed, status)?;
+    put_kept(&mut out, typed, seen, status)?;
     fill(&mut out, SIGN_IN_END, &[], &[false])?;
     put_bare_bottom(&mut out)?;
     Ok(out)
 }
 
 /// Puts what comes along.
-fn put_kept<'t>(out: &mut Vec<u8>, typed: Typed<'t>, status: &'t str) -> Result<(), AllocError>
+fn put_kept<'t>(
+    out: &mut Vec<u8>,
+    typed: Typed<'t>,
+    seen: u32,
+    status: &'t str,
+) -> Result<(), AllocError>
     ensures { OnOk result (out.new.items ≡ out.old.items ++ page_bytes (form.kept
-        typed.entry.subject.now typed.entry.requestors.now typed.entry.text.now status.now)) }
+        typed.entry.subject.now typed.entry.requestors.now seen typed.entry.text.now status.now)) }
 {
     let values = [
         Value::Text(typed.subject),
         Value::Text(typed.requestors),
+        Value::Number(seen),
         Value::Text(typed.text),
         Value::Text(status),
     ];

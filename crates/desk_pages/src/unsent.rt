@@ -19,6 +19,8 @@ pub enum Unsent {
     OtherPerson(Text),
     /// Nobody was signed in; the caller signed in then.
     SignedIn,
+    /// It is a reply to entries that the history doesn't have.
+    Ahead,
 }
 
 /// The heading of what is said of it.
@@ -30,7 +32,16 @@ pub(crate) fn title_of(why: &Unsent) -> &'static str
         Unsent::Refused(refusal) => heading_of(refusal),
         Unsent::OtherPerson(_) => "This form was another person’s",
         Unsent::SignedIn => "You are signed in",
+        Unsent::Ahead => ahead_heading(),
     }
+}
+
+/// The heading of what is said of a reply that waits.
+#[tactic(auto, unfolding(crate::specs::Unsent::ahead_heading))]
+pub(crate) fn ahead_heading() -> &'static str
+    ensures { result.now ≡ form.ahead_heading }
+{
+    "Your reply wasn’t sent yet"
 }
 
 /// Puts what is said of it to a caller.
@@ -42,7 +53,25 @@ pub(crate) fn put_why(out: &mut Vec<u8>, why: &Unsent, caller: &str) -> Result<(
         Unsent::Refused(refusal) => put_refusal(out, refusal),
         Unsent::OtherPerson(person) => put_other(out, caller, person.as_str()),
         Unsent::SignedIn => put_signed_in(out, caller),
+        Unsent::Ahead => put_ahead(out),
     }
+}
+
+#[tactic(auto, unfolding(crate::specs::Unsent::ahead_heading, crate::specs::Unsent::ahead_note))]
+fn put_ahead(out: &mut Vec<u8>) -> Result<(), AllocError>
+    ensures { OnOk result (out.new.items ≡ out.old.items ++ page_bytes form.ahead_note) }
+{
+    let values = [
+        Value::Text("Your reply wasn’t sent yet"),
+        Value::Text(
+            "The history doesn’t go as far as this form says. Look at the request, and press the button.",
+        ),
+        Value::Text(""),
+        Value::Text(""),
+        Value::Text(""),
+        Value::Text(""),
+    ];
+    fill(out, NOTE, &values, &[])
 }
 
 #[tactic(auto, unfolding(crate::specs::Unsent::other_heading, crate::specs::Unsent::other_note))]

@@ -11,18 +11,20 @@ use Rattle.desk_forms.specs.declared.table.CommandForm.TheVariants as forms
 use Rattle.desk_model.specs.declared.command.Command.TheVariants as command
 use Rattle.find_core.specs.declared.search.Place as find
 use Rattle.find_form.specs.declared.shown.Start.TheVariants.{First, After, Before}
+use Rattle.message_core.specs.declared.message.Message.{Message}
 use Rattle.settings_core.specs.declared.settings.Settings.{Settings}
 use Rattle.session_core.specs.Sessions as sessions
 use Rattle.session_core.specs.declared.session.Lasts.TheVariants.{Day, Month}
 use Rattle.page_routes.specs.Faults.{name_of, number_of, status_of}
-use Rattle.page_routes.specs.FormArguments.{filled, names_in, needed, others}
+use Rattle.page_routes.specs.FormArguments.{filled, names_in, needed, others, seen_in, tells_seen}
 use Rattle.page_routes.specs.Fronts.{behind}
 use Rattle.page_routes.specs.HeadBox.{box_page, leads, unmarked, words_query}
 use Rattle.page_routes.specs.Paths.{form_path, path_of, reply_path}
 use Rattle.page_routes.specs.Places.{act_named, fixed, is_page_path, method_named, path_in}
 use Rattle.page_routes.specs.Places.{queue_page, takes_post}
-use Rattle.page_routes.specs.Visits.{Lines, acted, asked_at, asked_by, caller_by, caller_of, form_of}
-use Rattle.page_routes.specs.Visits.{got, is_search, lasts_of, looker, next_from, next_in}
+use Rattle.page_routes.specs.Visits.{Answer, Lines, acted, asked_at, asked_by, caller_by, caller_of}
+use Rattle.page_routes.specs.Visits.{form_of, got, is_not_signed_in, is_search, is_wrong_token}
+use Rattle.page_routes.specs.Visits.{lasts_of, looker, next_from, next_in}
 use Rattle.page_routes.specs.Visits.{page_or_home, posted, posted_from, sent_in, sent_on, signed_at, signed_by}
 use Rattle.page_routes.specs.declared.fault.PageFault.TheVariants.{NoRoute, BadMethod, OtherSite}
 use Rattle.page_routes.specs.declared.fault.PageFault.TheVariants.{BadBody}
@@ -157,7 +159,7 @@ path_of_an_earlier_page :
 unfolding digits
 path_of_an_earlier_page = refl
 
-path_of_a_reply : form_path (sends.Reply 7 [] None) ≡ codes "/desk/requests/7/reply"
+path_of_a_reply : form_path (sends.Reply 7 3 [] None) ≡ codes "/desk/requests/7/reply"
 unfolding digits
 path_of_a_reply = refl
 
@@ -177,6 +179,12 @@ form_of_a_link = refl
 form_of_taking_has_one_field : needed forms.Take ≡ codes "me" ∷ []
 form_of_taking_has_one_field = refl
 
+form_of_a_reply : needed forms.Reply ≡ codes "me" ∷ codes "seen" ∷ codes "text" ∷ []
+form_of_a_reply = refl
+
+form_of_a_comment_tells_no_entry : needed forms.Comment ≡ codes "me" ∷ codes "text" ∷ []
+form_of_a_comment_tells_no_entry = refl
+
 status_beside_a_reply : others forms.Reply ≡ codes "status" ∷ []
 status_beside_a_reply = refl
 
@@ -189,6 +197,49 @@ empty_value_is_none = refl
 value_of_one_letter : filled (Some (codes "a")) ≡ Some (codes "a")
 value_of_one_letter = refl
 
+abbrev field : List ℕ → List ℕ → Field
+field name value = record { name = name; value = value }
+
+-- these are the digits of the field `seen`
+abbrev seen : List ℕ → List Field
+seen digits = field (codes "seen") digits ∷ []
+
+entry_that_was_seen : seen_in (seen (codes "12")) ≡ 12
+entry_that_was_seen = refl
+
+no_entry_is_told : seen_in [] ≡ 0
+no_entry_is_told = refl
+
+word_is_no_entry : seen_in (seen (codes "one")) ≡ 0
+word_is_no_entry = refl
+
+reply_tells_the_least_number : tells_seen forms.Reply (seen (codes "0")) ≡ true
+reply_tells_the_least_number = refl
+
+reply_tells_the_greatest_number : tells_seen forms.Reply (seen (codes "4294967295")) ≡ true
+reply_tells_the_greatest_number = refl
+
+reply_tells_a_number_one_past_it : tells_seen forms.Reply (seen (codes "4294967296")) ≡ false
+reply_tells_a_number_one_past_it = refl
+
+reply_tells_ten_digits : tells_seen forms.Reply (seen (codes "0000000012")) ≡ true
+reply_tells_ten_digits = refl
+
+reply_tells_eleven_digits : tells_seen forms.Reply (seen (codes "00000000012")) ≡ false
+reply_tells_eleven_digits = refl
+
+reply_tells_no_digit : tells_seen forms.Reply (seen []) ≡ false
+reply_tells_no_digit = refl
+
+reply_tells_a_sign : tells_seen forms.Reply (seen (codes "-1")) ≡ false
+reply_tells_a_sign = refl
+
+reply_tells_nothing : tells_seen forms.Reply [] ≡ false
+reply_tells_nothing = refl
+
+comment_need_tell_nothing : tells_seen forms.Comment [] ≡ true
+comment_need_tell_nothing = refl
+
 names_between_spaces : names_in (codes " ann  bob ") ≡ codes "ann" ∷ codes "bob" ∷ []
 names_between_spaces = refl
 
@@ -196,9 +247,6 @@ no_names : names_in [] ≡ []
 no_names = refl
 
 -- Visits.antt
-
-abbrev field : List ℕ → List ℕ → Field
-field name value = record { name = name; value = value }
 
 page_of_an_address : page_or_home (Some (places.Page pages.Overdue)) ≡ pages.Overdue
 page_of_an_address = refl
@@ -269,13 +317,15 @@ nothing_typed : box_page [] ≡ pages.Find [] First
 nothing_typed = refl
 
 reply_with_a_status :
-    sent_on forms.Reply 7 (field (codes "text") (codes "Hi") ∷ field (codes "status") (codes "open") ∷ [])
-    ≡ sends.Reply 7 (codes "Hi") (Some (codes "open"))
+    sent_on forms.Reply 7 (field (codes "seen") (codes "3") ∷ field (codes "text") (codes "Hi")
+    ∷ field (codes "status") (codes "open") ∷ [])
+    ≡ sends.Reply 7 3 (codes "Hi") (Some (codes "open"))
 reply_with_a_status = refl
 
 reply_without_one :
-    sent_on forms.Reply 7 (field (codes "text") (codes "Hi") ∷ field (codes "status") [] ∷ [])
-    ≡ sends.Reply 7 (codes "Hi") None
+    sent_on forms.Reply 7 (field (codes "seen") (codes "3") ∷ field (codes "text") (codes "Hi")
+    ∷ field (codes "status") [] ∷ [])
+    ≡ sends.Reply 7 3 (codes "Hi") None
 reply_without_one = refl
 
 new_request_with_a_status :
@@ -323,6 +373,27 @@ taking_with_a_field :
     (field (codes "me") (codes "ann") ∷ field (codes "a") [] ∷ []) ≡ Err BadBody
 taking_with_a_field = refl
 
+-- ann's reply to request 7, with such fields
+abbrev replying : List Field → Answer
+replying fields =
+    asked_at (codes "ann") (places.Act forms.Reply 7)
+    (field (codes "me") (codes "ann") ∷ field (codes "text") (codes "Hi") ∷ fields)
+
+reply_of_a_page_with_three_entries :
+    replying (seen (codes "3"))
+    ≡ Ok (visits.Act (codes "ann") (command.Reply 7 (codes "Hi")) (sends.Reply 7 3 (codes "Hi") None))
+reply_of_a_page_with_three_entries = refl
+
+reply_that_tells_no_entry : replying [] ≡ Err BadBody
+reply_that_tells_no_entry = refl
+
+reply_that_tells_one_twice :
+    replying (field (codes "seen") (codes "3") ∷ seen (codes "3")) ≡ Err BadBody
+reply_that_tells_one_twice = refl
+
+reply_that_tells_a_word : replying (seen (codes "three")) ≡ Err BadBody
+reply_that_tells_a_word = refl
+
 post_to_a_page_without_one : asked_at (codes "ann") (places.Page pages.Home) [] ≡ Err (BadMethod false)
 post_to_a_page_without_one = refl
 
@@ -336,8 +407,9 @@ nobody_with_a_bad_body :
 nobody_with_a_bad_body = refl
 
 nobody_with_a_text :
-    asked_by (places.Act forms.Reply 7) None (Some (field (codes "text") (codes "Hi") ∷ []))
-    ≡ Ok (visits.Unknown (nexts.Form (sends.Reply 7 (codes "Hi") None)) false)
+    asked_by (places.Act forms.Reply 7) None
+    (Some (field (codes "seen") (codes "3") ∷ field (codes "text") (codes "Hi") ∷ []))
+    ≡ Ok (visits.Unknown (nexts.Form (sends.Reply 7 3 (codes "Hi") None)) false)
 nobody_with_a_text = refl
 
 nobody_with_a_press :
@@ -477,3 +549,54 @@ token_that_is_not_known :
     ≡ visits.NotSignedIn (nexts.Page pages.Home)
 unfolding chars encode is_utf8
 token_that_is_not_known settings e = rw e refl
+
+token_that_is_not_known_signs_nobody_in :
+    is_not_signed_in (Ok (visits.NotSignedIn (nexts.Page pages.Home))) ≡ true
+token_that_is_not_known_signs_nobody_in = refl
+
+-- a cookie that isn't known is no token
+cookie_that_is_not_known :
+    is_not_signed_in (Ok (visits.Unknown (nexts.Page pages.Home) false)) ≡ false
+cookie_that_is_not_known = refl
+
+body_that_is_no_form : is_not_signed_in (Err BadBody) ≡ false
+body_that_is_no_form = refl
+
+-- a post to this target
+abbrev post : List ℕ → List ℕ → Message
+post target body =
+    record { method = codes "POST"; target = target; token = None; body = body }
+
+post_of_a_token_that_is_not_known :
+    (settings : Settings) → sessions.signed_in settings (codes "x") 29546970 Day ≡ None
+    → is_wrong_token false settings 29546970 (post (codes "/sign-in") (codes "token=x&next=/"))
+    (from (codes "same-origin")) ≡ true
+unfolding chars encode is_utf8
+post_of_a_token_that_is_not_known settings e = rw e refl
+
+post_of_a_token_that_is_known :
+    (settings : Settings) → sessions.signed_in settings (codes "x") 29546970 Day ≡ Some (codes "ann.1720.0a")
+    → is_wrong_token false settings 29546970 (post (codes "/sign-in") (codes "token=x&next=/"))
+    (from (codes "same-origin")) ≡ false
+unfolding chars encode is_utf8
+post_of_a_token_that_is_known settings e = rw e refl
+
+-- whatever the token is
+post_of_a_token_from_another_site :
+    (settings : Settings)
+    → is_wrong_token false settings 29546970 (post (codes "/sign-in") (codes "token=x&next=/"))
+    (from (codes "cross-site")) ≡ false
+post_of_a_token_from_another_site settings = refl
+
+post_elsewhere :
+    (settings : Settings)
+    → is_wrong_token false settings 29546970 (post (codes "/sign-out") []) (from (codes "same-origin")) ≡ false
+post_elsewhere settings = refl
+
+-- no session begins where the clock shows no moment of the desk
+post_of_a_token_at_no_moment :
+    (settings : Settings)
+    → is_wrong_token false settings 1000 (post (codes "/sign-in") (codes "token=x&next=/"))
+    (from (codes "same-origin")) ≡ false
+unfolding chars encode is_utf8
+post_of_a_token_at_no_moment settings = refl

@@ -1,6 +1,6 @@
 -- The command for which the fields of a form ask.
-use Rattle.std.specs.Prelude.{ℕ, ◌==◌, Bool, false, not, if◌then◌else◌, List, [], ◌∷◌, length, codes}
-use Rattle.std.specs.Prelude.{Option, Some, None, unwrap_or}
+use Rattle.std.specs.Prelude.{ℕ, ◌==◌, Bool, true, false, not, ◌&&◌, if◌then◌else◌, List, [], ◌∷◌}
+use Rattle.std.specs.Prelude.{length, codes, Option, Some, None, is_some, unwrap_or}
 use Rattle.std.specs.List.{filter, slice_split}
 use Rattle.std.specs.Option.{option_and_then}
 use Rattle.desk_model.specs.declared.command.Command.{Command}
@@ -23,7 +23,7 @@ own forms.Create = codes "subject" ∷ codes "requestors" ∷ []
 own forms.SetStatus = codes "status" ∷ []
 own forms.SetLevel = codes "level" ∷ []
 own forms.Give = codes "person" ∷ []
-own forms.Reply = codes "text" ∷ []
+own forms.Reply = codes "seen" ∷ codes "text" ∷ []
 own forms.Comment = codes "text" ∷ []
 own forms.Watch = codes "role" ∷ codes "person" ∷ []
 own forms.Unwatch = codes "role" ∷ codes "person" ∷ []
@@ -55,6 +55,19 @@ filled (Some value) = if length value == 0 then None else Some value
 abbrev pub names_in : List ℕ → List (List ℕ)
 names_in text = filter is_filled (slice_split (λ b. b == 32) text)
 
+-- the number that is told as that of the last entry which the page showed, if one is
+abbrev pub seen_told : List Field → Option ℕ
+seen_told fields = option_and_then number_of (value_of (codes "seen") fields)
+
+-- the same, and 0 where none is told
+abbrev pub seen_in : List Field → ℕ
+seen_in fields = unwrap_or (seen_told fields) 0
+
+-- a reply has to tell it
+abbrev pub tells_seen : CommandForm → List Field → Bool
+tells_seen forms.Reply fields = is_some (seen_told fields)
+tells_seen form fields = true
+
 -- what the path and the fields give, by the keys of arguments; where a text may be left out, an
 -- empty one is none
 abbrev pub sheet_of : PathParameter → List Field → ArgumentSource
@@ -68,7 +81,8 @@ sheet_of b fields = record {
   is_set = λ k. false;
 }
 
--- the command of a form, where the fields are just its own
+-- the command of a form, where the fields are just its own, and a reply tells what was seen
 abbrev pub command_in : CommandForm → PathParameter → List Field → Option Command
 command_in form b fields =
-    if has_fields (needed form) (others form) fields then command_from form (sheet_of b fields) else None
+    if has_fields (needed form) (others form) fields && tells_seen form fields
+    then command_from form (sheet_of b fields) else None

@@ -34,7 +34,7 @@ act_path id act = codes "/desk/requests/" ++ (decimal id ++ act)
 abbrev pub form_path : SubmittedForm → List ℕ
 form_path sends.Queue = path_of Home
 form_path (sends.New queue subject requestors text status) = path_of (New queue)
-form_path (sends.Reply id text status) = act_path id (codes "/reply")
+form_path (sends.Reply id seen text status) = act_path id (codes "/reply")
 form_path (sends.Comment id text) = act_path id (codes "/comment")
 form_path (sends.Change id) = path_of (Request id)
 

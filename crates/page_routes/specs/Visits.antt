@@ -20,7 +20,7 @@ use Rattle.desk_forms.specs.declared.paths.Method.{Method}
 use Rattle.desk_forms.specs.declared.paths.Method.TheVariants.{Get, Post}
 use Rattle.desk_forms.specs.declared.table.CommandForm.{CommandForm}
 use Rattle.desk_forms.specs.declared.table.CommandForm.TheVariants as forms
-use Rattle.page_routes.specs.FormArguments.{command_in, filled}
+use Rattle.page_routes.specs.FormArguments.{command_in, filled, seen_in}
 use Rattle.page_routes.specs.Places.{method_named, place_at, takes_post}
 use Rattle.page_routes.specs.declared.fault.PageFault.{PageFault}
 use Rattle.page_routes.specs.declared.fault.PageFault.TheVariants.{NoRoute, BadMethod, OtherSite}
@@ -93,7 +93,8 @@ typed name fields = unwrap_or (value_of name fields) []
 
 abbrev pub sent_on : CommandForm → ℕ → List Field → SubmittedForm
 sent_on forms.Reply id fields =
-    sends.Reply id (typed (codes "text") fields) (filled (value_of (codes "status") fields))
+    sends.Reply id (seen_in fields) (typed (codes "text") fields)
+    (filled (value_of (codes "status") fields))
 sent_on forms.Comment id fields = sends.Comment id (typed (codes "text") fields)
 sent_on _ id fields = sends.Change id
 
@@ -211,7 +212,8 @@ signed https settings at fields =
 -- what may come along of a form
 abbrev pub kept : List (List ℕ)
 kept =
-    codes "keep" ∷ codes "subject" ∷ codes "requestors" ∷ codes "text" ∷ codes "status" ∷ []
+    codes "keep" ∷ codes "subject" ∷ codes "requestors" ∷ codes "seen" ∷ codes "text" ∷ codes "status"
+    ∷ []
 
 abbrev pub signing : Bool → Settings → ℕ → Option (List Field) → Answer
 signing https settings at None = Err BadBody

@@ -6,7 +6,7 @@ ghost use Rattle.page_routes.specs.FormArguments.{filled};
 ghost use Rattle.page_routes.specs.Visits as visits;
 
 use crate::fault::PageFault;
-use crate::filled::{command_in, filled_value, typed};
+use crate::filled::{command_in, filled_value, seen_in, typed};
 use crate::next::{Next, SubmittedForm};
 use crate::page::Page;
 use crate::place::Place;
@@ -197,7 +197,12 @@ fn replied(alloc: Global, id: u32, fields: &[Field]) -> Result<SubmittedForm, Al
 {
     let text = Text::new(alloc, typed(fields, "text"))?;
     let status = chosen_status(alloc, fields)?;
-    Ok(SubmittedForm::Reply { id, text, status })
+    Ok(SubmittedForm::Reply {
+        id,
+        seen: seen_in(fields),
+        text,
+        status,
+    })
 }
 
 /// The status that was chosen, where one was.

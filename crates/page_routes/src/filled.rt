@@ -26,7 +26,7 @@ fn needed(of: CommandForm) -> &'static [&'static str]
         CommandForm::SetStatus => &["me", "status"],
         CommandForm::SetLevel => &["me", "level"],
         CommandForm::Give => &["me", "person"],
-        CommandForm::Reply => &["me", "text"],
+        CommandForm::Reply => &["me", "seen", "text"],
         CommandForm::Comment => &["me", "text"],
         CommandForm::Watch => &["me", "role", "person"],
         CommandForm::Unwatch => &["me", "role", "person"],
@@ -74,6 +74,26 @@ pub(crate) fn typed<'f>(fields: &'f [Field], name: &str) -> &'f str
     match value_of(fields, name) {
         Some(value) => value,
         None => "",
+    }
+}
+
+/// The number of the last entry that the page of a form showed, and 0 where none is told.
+pub(crate) fn seen_in(fields: &[Field]) -> u32
+    ensures { result ≡ filled.seen_in fields.now }
+{
+    match number_at(fields, "seen") {
+        Some(seen) => seen,
+        None => 0,
+    }
+}
+
+/// Whether a form that has to tell such a number tells one.
+fn tells_seen(of: CommandForm, fields: &[Field]) -> bool
+    ensures { result ≡ filled.tells_seen of fields.now }
+{
+    match of {
+        CommandForm::Reply => number_at(fields, "seen").is_some(),
+        _ => true,
     }
 }
 
@@ -138,7 +158,8 @@ impl ArgumentSource for FormArguments<'_> {
     }
 }
 
-/// The command of a form at a path that names this, where the fields are just its own.
+/// The command of a form at a path that names this, where the fields are just its own, and a reply
+/// tells by a number up to where the history was seen.
 pub(crate) fn command_in(
     alloc: Global,
     of: CommandForm,
@@ -148,7 +169,7 @@ pub(crate) fn command_in(
     ensures { IfOk result (λ c.
         c ≡ filled.command_in of (bound_of bound.entry) fields.now) }
 {
-    if !has_fields(fields, needed(of), others(of)) {
+    if !has_fields(fields, needed(of), others(of)) || !tells_seen(of, fields) {
         return Ok(None);
     }
     command_from(alloc, of, &FormArguments { bound, fields })

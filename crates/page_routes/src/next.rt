@@ -29,10 +29,12 @@ pub enum SubmittedForm {
         text: Text,
         status: Option<Text>,
     },
-    /// To reply to the request, and to move it to a status, where one was chosen: done, it leads to
-    /// the end of its history, and refused to it.
+    /// To reply to the request, of whose history a page showed the entries up to the one of the number
+    /// `seen`, and to move it to a status, where one was chosen: done, it leads to the end of its
+    /// history, and refused to it.
     Reply {
         id: u32,
+        seen: u32,
         text: Text,
         status: Option<Text>,
     },

@@ -36,7 +36,7 @@ pub(crate) fn signing(
     let Some(fields) = fields_of(alloc, body)? else {
         return Err(PageFault::BadBody);
     };
-    let kept = ["keep", "subject", "requestors", "text", "status"];
+    let kept = ["keep", "subject", "requestors", "seen", "text", "status"];
     if !has_fields(fields.as_slice(), &["token", "next"], &kept) {
         return Err(PageFault::BadBody);
     }

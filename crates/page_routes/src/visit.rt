@@ -88,7 +88,9 @@ pub enum PageRequest {
 ///
 /// `NoRoute` where its path is no place, `BadMethod` where the place doesn't have its method,
 /// `OtherSite` where a post comes from another site, and `BadBody` where a body isn't what the form
-/// sends: the first of these that holds. Whoever the cookie is, it is looked at before the body, but
+/// sends: the first of these that holds. A reply sends as `seen` the number of the last entry that its
+/// page showed: `BadBody` also where that is missing, stands there twice, or isn't 1 to 10 digits, of at
+/// most 4,294,967,295. Whoever the cookie is, it is looked at before the body, but
 /// not for signing in and out. `NoMemory` may stand in place of any other answer.
 pub fn visit_of(
     alloc: Global,

@@ -42,7 +42,8 @@ use Rattle.page_routes.specs.declared.page.Page.TheVariants as page
 use Rattle.service_core.specs.Dossiers.{IsDossier}
 use Rattle.service_core.specs.TableSteps.{ask_by}
 use Rattle.service_core.proofs.RunsAlike.{tells}
-use Rattle.page_wire.specs.Laws.{AreAlike, PagesAlike, out_of_memory}
+use Rattle.page_wire.specs.Laws.{AreAlike, PagesAlike, TextsAlike, out_of_memory}
+use Rattle.page_wire.specs.Overtaken.{told_before}
 use Rattle.page_wire.specs.Replies as replies
 use Rattle.page_wire.specs.Steps.{AreLoads, Does, FindSteps, HomeSteps, IsFound, LooksAt}
 use Rattle.page_wire.specs.Steps.{SearchFormSteps, SearchSteps}
@@ -341,3 +342,11 @@ pages_alike s at caller page.Overdue one other after last bytes told is are same
 pages_alike s at caller page.Workload one other after last bytes told is are same so also =
     does_alike s at caller one other same command.Workload (replies.workload_reply caller at) after last
     bytes told refl refl so also
+
+-- ---- a text that isn't sent
+
+pub texts_alike : TextsAlike
+texts_alike s at caller id sent one other result results is are same file files n m =
+    ap (told_before caller at sent) (dossiers_by s at caller one other same id result results is are
+    file files (shown_alike s at caller one other same id result results file files n m)
+    (history_alike s at caller one other same id result results file files n m))

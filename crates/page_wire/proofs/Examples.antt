@@ -1,16 +1,19 @@
 -- Examples of the definitions: what a form's second command takes, where one is led, what is told of a
--- refusal, what was sent already, and who asks whether the desk is there.
-use Rattle.std.specs.Prelude.{◌≡◌, refl, ℕ, true, false, List, [], codes, Some, None, Err}
+-- refusal, what was sent already, what somebody overtook, and who asks whether the desk is there.
+use Rattle.std.specs.Prelude.{◌≡◌, refl, ℕ, true, false, List, [], ◌∷◌, codes, Some, None, Ok, Err}
 use Rattle.std.specs.Fmt.{digits}
 use Rattle.desk_model.specs.declared.answer.Answer.TheVariants as answer
+use Rattle.desk_model.specs.declared.answer.Dossier.{Dossier}
 use Rattle.desk_model.specs.declared.command.Command.TheVariants as command
 use Rattle.desk_model.specs.declared.refusal.Refusal.TheVariants as refusal
 use Rattle.desk_model.specs.declared.rows.Entry.{Entry}
 use Rattle.desk_model.specs.declared.rows.EntryKind.{EntryKind}
 use Rattle.desk_model.specs.declared.rows.EntryKind.TheVariants as kind
+use Rattle.desk_model.specs.declared.rows.Turn.TheVariants.{Desk}
+use Rattle.desk_pages.specs.Overtaken.{overtaken_page}
 use Rattle.desk_pages.specs.RefusalPage.{filed_page, replied_page}
 use Rattle.desk_pages.specs.SignIn.{kept_page}
-use Rattle.desk_pages.specs.declared.unsent.Unsent.TheVariants.{OtherPerson, Refused}
+use Rattle.desk_pages.specs.declared.unsent.Unsent.TheVariants.{Ahead, OtherPerson, Refused}
 use Rattle.message_core.specs.declared.message.Message.{Message}
 use Rattle.page_core.specs.Page.{page_bytes}
 use Rattle.page_routes.specs.declared.next.SubmittedForm.{SubmittedForm}
@@ -20,7 +23,8 @@ use Rattle.page_wire.specs.Next.{follow_up_command, next_text}
 use Rattle.page_wire.specs.Redirect.{led_to}
 use Rattle.page_wire.specs.Replies.{done_reply, half_form, other_person_reply, refused_reply}
 use Rattle.page_wire.specs.Replies.{sign_in_form, unsent_form, with_page}
-use Rattle.page_wire.specs.Twice.{is_of, is_status, told_request, was_sent}
+use Rattle.page_wire.specs.Overtaken.{is_ahead, overtaker, overtakes, told_before}
+use Rattle.page_wire.specs.Twice.{has_moved, is_of, is_status, is_told, told_request}
 
 -- ---- the second command
 
@@ -42,7 +46,7 @@ text_that_begins_with_a_space : next_text (new (codes " Hi")) ≡ Some (codes " 
 text_that_begins_with_a_space = refl
 
 status_beside_a_reply :
-    next_text (sent.Reply 7 (codes "Hi") (Some (codes "open"))) ≡ Some (codes "open")
+    next_text (sent.Reply 7 3 (codes "Hi") (Some (codes "open"))) ≡ Some (codes "open")
 status_beside_a_reply = refl
 
 nothing_after_a_comment : next_text (sent.Comment 7 (codes "Hi")) ≡ None
@@ -54,7 +58,7 @@ reply_to_a_new_request :
 reply_to_a_new_request = refl
 
 move_after_a_reply :
-    follow_up_command (sent.Reply 7 (codes "Hi") (Some (codes "open"))) answer.Done
+    follow_up_command (sent.Reply 7 3 (codes "Hi") (Some (codes "open"))) answer.Done
     ≡ Some (command.SetStatus 7 (codes "open"))
 move_after_a_reply = refl
 
@@ -83,7 +87,7 @@ filed_without_its_text :
 filed_without_its_text = refl
 
 replied_and_not_moved :
-    half_form (codes "ann") 1000 (sent.Reply 7 (codes "Hi") (Some (codes "open"))) answer.Done
+    half_form (codes "ann") 1000 (sent.Reply 7 3 (codes "Hi") (Some (codes "open"))) answer.Done
     refusal.NoTransition
     ≡ replied_page refusal.NoTransition (codes "ann") 1000 7 (codes "open")
 replied_and_not_moved = refl
@@ -104,7 +108,7 @@ entry of body =
     }
 
 abbrev hi : SubmittedForm
-hi = sent.Reply 7 (codes "Hi") None
+hi = sent.Reply 7 1 (codes "Hi") None
 
 reply_of_ten_minutes_ago : is_of (codes "ann") 1010 hi (entry kind.Reply (codes "Hi")) ≡ true
 reply_of_ten_minutes_ago = refl
@@ -134,7 +138,166 @@ status_that_is_there = refl
 status_that_is_not_there : is_status (Some (codes "resolved")) (codes "open") ≡ false
 status_that_is_not_there = refl
 
-request_that_is_not_shown : was_sent (codes "ann") 1000 hi (Err refusal.NotFound) ≡ false
+-- what ann is told of request 7, which has this status
+abbrev file : List ℕ → List Entry → Dossier
+file status entries =
+    record {
+      shown = record {
+        row = record {
+          id = 7;
+          queue = codes "it";
+          subject = codes "Ink";
+          status = status;
+          owner = None;
+          level = None;
+          created = 990;
+          opened = 990;
+          turn = Desk;
+          since = 990;
+        };
+        requestors = [];
+        cc = [];
+        admin_cc = [];
+        due = None;
+        links = record {
+          depends_on = [];
+          depended_on_by = [];
+          member_of = [];
+          has_member = [];
+          refers_to = [];
+          referred_to_by = [];
+        };
+      };
+      entries = entries;
+      queue = record { name = codes "it"; lifecycle = codes "default"; level = None };
+    }
+
+-- with these entries, and the status `new`
+abbrev told : List Entry → Dossier
+told entries = file (codes "new") entries
+
+reply_without_a_status_moves_nothing : has_moved hi (told []) ≡ true
+reply_without_a_status_moves_nothing = refl
+
+-- a reply that makes it resolved
+abbrev done : SubmittedForm
+done = sent.Reply 7 1 (codes "Hi") (Some (codes "resolved"))
+
+request_that_was_moved : has_moved done (file (codes "resolved") []) ≡ true
+request_that_was_moved = refl
+
+request_that_was_not_moved : has_moved done (told []) ≡ false
+request_that_was_not_moved = refl
+
+comment_moves_nothing : has_moved (sent.Comment 7 (codes "Hi")) (told []) ≡ true
+comment_moves_nothing = refl
+
+reply_that_is_there : is_told (codes "ann") 1000 hi (told (entry kind.Reply (codes "Hi") ∷ [])) ≡ true
+reply_that_is_there = refl
+
+reply_that_is_not_there :
+    is_told (codes "ann") 1000 hi (told (entry kind.Reply (codes "Ho") ∷ [])) ≡ false
+reply_that_is_not_there = refl
+
+-- the text is there, but not the status
+reply_that_is_half_there :
+    is_told (codes "ann") 1000 done (told (entry kind.Reply (codes "Hi") ∷ [])) ≡ false
+reply_that_is_half_there = refl
+
+-- ---- what somebody overtook
+
+-- entry `number` of request 7, by this person
+abbrev made : ℕ → List ℕ → EntryKind → Entry
+made number actor of =
+    record {
+      id = 7;
+      number = number;
+      moment = 1000;
+      actor = actor;
+      kind = of;
+      head = [];
+      body = [];
+    }
+
+-- bob has seen the entries up to the fifth
+reply_behind_the_last_that_was_seen :
+    overtakes (codes "bob") 5 (made 6 (codes "ann") kind.Reply) ≡ true
+reply_behind_the_last_that_was_seen = refl
+
+reply_that_was_seen : overtakes (codes "bob") 5 (made 5 (codes "ann") kind.Reply) ≡ false
+reply_that_was_seen = refl
+
+reply_of_ones_own : overtakes (codes "bob") 5 (made 6 (codes "bob") kind.Reply) ≡ false
+reply_of_ones_own = refl
+
+move_by_another : overtakes (codes "bob") 5 (made 6 (codes "ann") kind.Status) ≡ true
+move_by_another = refl
+
+owner_by_another : overtakes (codes "bob") 5 (made 6 (codes "ann") kind.Owner) ≡ true
+owner_by_another = refl
+
+comment_by_another : overtakes (codes "bob") 5 (made 6 (codes "ann") kind.Comment) ≡ false
+comment_by_another = refl
+
+watcher_by_another : overtakes (codes "bob") 5 (made 6 (codes "ann") kind.Watch) ≡ false
+watcher_by_another = refl
+
+-- it isn't the newest that is named
+first_of_two_others :
+    overtaker (codes "bob") 5
+    (made 5 (codes "ann") kind.Reply ∷ made 6 (codes "ann") kind.Comment ∷ made 7 (codes "cid") kind.Owner
+    ∷ made 8 (codes "ann") kind.Reply ∷ []) ≡ Some (made 7 (codes "cid") kind.Owner)
+first_of_two_others = refl
+
+nobody_but_oneself :
+    overtaker (codes "bob") 5 (made 6 (codes "bob") kind.Reply ∷ made 7 (codes "bob") kind.Status ∷ [])
+    ≡ None
+nobody_but_oneself = refl
+
+last_entry_is_not_ahead : is_ahead 6 (made 5 (codes "ann") kind.Reply ∷ made 6 (codes "ann") kind.Reply ∷ []) ≡ false
+last_entry_is_not_ahead = refl
+
+one_past_it_is_ahead : is_ahead 7 (made 5 (codes "ann") kind.Reply ∷ made 6 (codes "ann") kind.Reply ∷ []) ≡ true
+one_past_it_is_ahead = refl
+
+-- ann has seen the first entry, and replies
+overtaken_by_bob :
+    told_before (codes "ann") 1000 hi (Ok (told (made 2 (codes "bob") kind.Reply ∷ [])))
+    ≡ Some (with_page 409 (page_bytes (overtaken_page (codes "ann") 1000 (made 2 (codes "bob") kind.Reply)
+    (told (made 2 (codes "bob") kind.Reply ∷ [])) 1 (codes "Hi") None)))
+overtaken_by_bob = refl
+
+sent_all_the_same :
+    told_before (codes "ann") 1000 (sent.Reply 7 2 (codes "Hi") None)
+    (Ok (told (made 2 (codes "bob") kind.Reply ∷ []))) ≡ None
+sent_all_the_same = refl
+
+-- what was sent already comes first
+sent_already_and_overtaken :
+    told_before (codes "ann") 1000 hi
+    (Ok (told (entry kind.Reply (codes "Hi") ∷ made 3 (codes "bob") kind.Reply ∷ []))) ≡ Some (led_to 7)
+sent_already_and_overtaken = refl
+
+comment_is_not_held_back :
+    told_before (codes "ann") 1000 (sent.Comment 7 (codes "Hi"))
+    (Ok (told (made 2 (codes "bob") kind.Reply ∷ []))) ≡ None
+comment_is_not_held_back = refl
+
+-- its form is shown with the number of the last entry
+ahead_of_the_history :
+    told_before (codes "ann") 1000 (sent.Reply 7 3 (codes "Hi") None)
+    (Ok (told (made 2 (codes "bob") kind.Reply ∷ [])))
+    ≡ Some (with_page 409 (page_bytes (unsent_form (codes "ann") 1000 (sent.Reply 7 2 (codes "Hi") None)
+    Ahead)))
+ahead_of_the_history = refl
+
+desk_that_can_not_look :
+    told_before (codes "ann") 1000 hi (Err refusal.Unavailable)
+    ≡ Some (refused_reply (codes "ann") 1000 hi refusal.Unavailable)
+desk_that_can_not_look = refl
+
+-- the command is refused by itself
+request_that_is_not_shown : told_before (codes "ann") 1000 hi (Err refusal.NotFound) ≡ None
 request_that_is_not_shown = refl
 
 new_request_is_told_to_none : told_request (new (codes "Hi")) ≡ None
@@ -142,10 +305,10 @@ new_request_is_told_to_none = refl
 
 -- ---- signing in with a form
 
--- the text and the status that was chosen come along
+-- the text, the status that was chosen and the number of the last entry that was seen come along
 reply_that_comes_along :
-    sign_in_form (sent.Reply 7 (codes "Hi") (Some (codes "open"))) false
-    ≡ kept_page (codes "/desk/requests/7/reply") [] [] (codes "Hi") (codes "open") false
+    sign_in_form (sent.Reply 7 3 (codes "Hi") (Some (codes "open"))) false
+    ≡ kept_page (codes "/desk/requests/7/reply") [] [] 3 (codes "Hi") (codes "open") false
 unfolding digits
 reply_that_comes_along = refl
 

@@ -1,6 +1,6 @@
 -- From the step of a command to that of a message.
 use Rattle.std.proofs.Common.{◌≡◌, ◌∙◌, ℕ, List, Option, Some, None, Result, Ok, Err, IfOk, OnErr, OnOk}
-use Rattle.std.proofs.Common.{Bool, true, false, refl, sym, subst, inl, inr}
+use Rattle.std.proofs.Common.{refl, sym, subst, inl, inr}
 use Rattle.std.specs.Prelude.{Vec}
 use Rattle.sqlite.specs.State.{State}
 use Rattle.sqlite.specs.Store.{Ghosts}
@@ -35,11 +35,11 @@ use Rattle.wire_core.specs.Steps.{StaysOn}
 use Rattle.wire_core.proofs.Stepping.{leads_nowhere, leads_wider, stays}
 use Rattle.page_routes.specs.declared.next.SubmittedForm.{SubmittedForm}
 use Rattle.page_wire.specs.Forms.{FormStepsOn, IsTold, SecondStepsOn, StepsOnceOn, StepsUnless}
-use Rattle.page_wire.specs.Forms.{StepsUnrefusedOn, UnlessSent, refused_before}
+use Rattle.page_wire.specs.Forms.{StepsUnrefusedOn, UnlessTold, refused_before}
 use Rattle.page_wire.specs.Next.{follow_up_command}
-use Rattle.page_wire.specs.Redirect.{led_by}
+use Rattle.page_wire.specs.Overtaken.{told_before}
 use Rattle.page_wire.specs.Replies.{done_reply, home_reply, refused_reply, request_reply}
-use Rattle.page_wire.specs.Twice.{told_request, was_sent}
+use Rattle.page_wire.specs.Twice.{told_request}
 use Rattle.page_wire.specs.Steps.{DoesOn, Finds, HomeSteps, LookedBy, LooksAt, Tells}
 
 -- ---- a command that reads leaves the desk
@@ -215,43 +215,43 @@ pub sends_no_text : {X E : Type 0} (s : Settings) (at : ℕ) (caller : List ℕ)
 sends_no_text s at caller command sent r bytes old new is steps =
     subst (λ (id : Option ℕ). OnOk r (StepsOnceOn s at caller command sent id bytes old new)) is steps
 
--- its text was sent already
-pub sent_already : (s : Settings) (at : ℕ) (caller : List ℕ) (command : Command) (sent : SubmittedForm)
+-- its text is held back
+pub told_instead : (s : Settings) (at : ℕ) (caller : List ℕ) (command : Command) (sent : SubmittedForm)
     (id : ℕ) (result : Result Dossier Refusal) (bytes : List ℕ) (old new : State)
-    → DossierOn s at caller id result old new → was_sent caller at sent result ≡ true
-    → bytes ≡ led_by sent → StepsOnceOn s at caller command sent (Some id) bytes old new
-sent_already s at caller command sent id result bytes old new tells was told =
+    → DossierOn s at caller id result old new → told_before caller at sent result ≡ Some bytes
+    → StepsOnceOn s at caller command sent (Some id) bytes old new
+told_instead s at caller command sent id result bytes old new tells told =
     λ desk is stand clean. let found = tells desk is stand clean in
-    let stays : UnlessSent s at caller command sent (was_sent caller at sent result) desk bytes desk =
-    subst (λ (b : Bool). UnlessSent s at caller command sent b desk bytes desk) (sym was)
-    (told, refl) in
+    let stays : UnlessTold s at caller command sent (told_before caller at sent result) desk bytes desk =
+    subst (λ (reply : Option (List ℕ)). UnlessTold s at caller command sent reply desk bytes desk)
+    (sym told) (refl, refl) in
     (desk, ((result, found.0, stays), is), found.1)
 
--- it wasn't
-pub not_sent : {X E : Type 0} (s t : Settings) (at : ℕ) (caller : List ℕ) (command : Command)
+-- it isn't
+pub not_told : {X E : Type 0} (s t : Settings) (at : ℕ) (caller : List ℕ) (command : Command)
     (sent : SubmittedForm) (id : ℕ) (result : Result Dossier Refusal) (r : Result X E) (bytes : List ℕ)
     (old mid new : State) → t ≡ s → WasClean mid new
-    → DossierOn s at caller id result old mid → was_sent caller at sent result ≡ false
+    → DossierOn s at caller id result old mid → told_before caller at sent result ≡ None
     → OnOk r (StepsUnrefusedOn t at caller command sent bytes mid new)
     → OnOk r (StepsOnceOn s at caller command sent (Some id) bytes old new)
-not_sent s t at caller command sent id result (Ok x) bytes old mid new same honest tells was steps =
+not_told s t at caller command sent id result (Ok x) bytes old mid new same honest tells none steps =
     λ desk is stand clean. let found = tells desk is stand (honest clean) in
     let step =
     subst (λ (u : Settings). StepsUnrefusedOn u at caller command sent bytes mid new) same steps desk is
     found.1 clean in
-    let done : UnlessSent s at caller command sent (was_sent caller at sent result) desk bytes step.0 =
-    subst (λ (b : Bool). UnlessSent s at caller command sent b desk bytes step.0) (sym was)
-    step.1.0 in
+    let done : UnlessTold s at caller command sent (told_before caller at sent result) desk bytes step.0 =
+    subst (λ (reply : Option (List ℕ)). UnlessTold s at caller command sent reply desk bytes step.0)
+    (sym none) step.1.0 in
     (step.0, ((result, found.0, done), step.1.1), step.2)
-not_sent s t at caller command sent id result (Err e) bytes old mid new same honest tells was steps = tt
+not_told s t at caller command sent id result (Err e) bytes old mid new same honest tells none steps = tt
 
 -- what stays after a reading, stays
-pub stays_after : {X E : Type 0} (P Q : Type 0) (s t : Settings) (r : Result X E) (old mid new : State)
-    → t ≡ s → WasClean mid new → LeavesTables old mid → (P → Q)
-    → OnErr r (P × StaysOn t mid new) → OnErr r (Q × StaysOn s old new)
-stays_after P Q s t (Ok x) old mid new same honest kept wider left = tt
-stays_after P Q s t (Err e) old mid new same honest kept wider left = (
-  wider left.0,
+pub stays_after : {X E : Type 0} (P : Type 0) (s t : Settings) (r : Result X E) (old mid new : State)
+    → t ≡ s → WasClean mid new → LeavesTables old mid
+    → OnErr r (P × StaysOn t mid new) → OnErr r (P × StaysOn s old new)
+stays_after P s t (Ok x) old mid new same honest kept left = tt
+stays_after P s t (Err e) old mid new same honest kept left = (
+  left.0,
   λ desk is stand clean.
       let stays = subst (λ (u : Settings). StaysOn u mid new) same left.1 in
       stays desk is (stands kept (contents_of (due_of_row s desk) desk) stand) clean,

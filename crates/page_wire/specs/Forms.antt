@@ -1,5 +1,5 @@
 -- The step of a form: its command, and the second one where there is one.
-use Rattle.std.specs.Prelude.{◌≡◌, ◌⊎◌, ℕ, Bool, true, false, List, Option, Some, None}
+use Rattle.std.specs.Prelude.{◌≡◌, ◌⊎◌, ℕ, List, Option, Some, None}
 use Rattle.std.specs.Prelude.{Result, Ok, Err}
 use Rattle.std.specs.Option.{option_and_then}
 use Rattle.sqlite.specs.State.{State}
@@ -15,9 +15,9 @@ use Rattle.page_routes.specs.declared.next.SubmittedForm.{SubmittedForm}
 use Rattle.service_core.specs.Dossiers.{IsDossier}
 use Rattle.service_core.specs.TableSteps.{IsStep, OverTables, ask_by}
 use Rattle.page_wire.specs.Next.{follow_up_command}
-use Rattle.page_wire.specs.Redirect.{led_by}
+use Rattle.page_wire.specs.Overtaken.{told_before}
 use Rattle.page_wire.specs.Replies.{done_reply, half_reply, refused_reply}
-use Rattle.page_wire.specs.Twice.{told_request, was_sent}
+use Rattle.page_wire.specs.Twice.{told_request}
 
 -- The second command was refused: the reply says what was done and what wasn't. Out of memory it
 -- leads on as after the first, since something was done.
@@ -60,21 +60,21 @@ StepsUnrefused settings at caller command sent old bytes new =
     (outcome : Outcome) × (mid : Desk) × IsStep settings (ask_by at caller command) old outcome mid
     × AfterFirst settings at caller sent outcome mid bytes new
 
--- what was sent already leads where it led then, and nothing is done
-abbrev pub UnlessSent : Settings → ℕ → List ℕ → Command → SubmittedForm → Bool → Desk → List ℕ → Desk
-    → Type 0
-UnlessSent settings at caller command sent true old bytes new = (bytes ≡ led_by sent) × (new ≡ old)
-UnlessSent settings at caller command sent false old bytes new =
+-- where a text isn't sent this is told, and nothing is done
+abbrev pub UnlessTold : Settings → ℕ → List ℕ → Command → SubmittedForm → Option (List ℕ) → Desk
+    → List ℕ → Desk → Type 0
+UnlessTold settings at caller command sent (Some reply) old bytes new = (bytes ≡ reply) × (new ≡ old)
+UnlessTold settings at caller command sent None old bytes new =
     StepsUnrefused settings at caller command sent old bytes new
 
--- of a text that is sent to a request, its dossier tells whether it was
+-- of a text that is sent to a request, its dossier tells whether it is sent
 abbrev pub StepsOnce : Settings → ℕ → List ℕ → Command → SubmittedForm → Option ℕ → Desk → List ℕ → Desk
     → Type 0
 StepsOnce settings at caller command sent None old bytes new =
     StepsUnrefused settings at caller command sent old bytes new
 StepsOnce settings at caller command sent (Some id) old bytes new =
     (result : Result Dossier Refusal) × IsDossier settings at caller id old result
-    × UnlessSent settings at caller command sent (was_sent caller at sent result) old bytes new
+    × UnlessTold settings at caller command sent (told_before caller at sent result) old bytes new
 
 -- where the second is refused beforehand nothing is done
 abbrev pub StepsUnless : Settings → ℕ → List ℕ → Command → SubmittedForm → Option Refusal → Desk

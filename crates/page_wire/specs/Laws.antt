@@ -1,12 +1,14 @@
 -- What holds of all pages: whatever is looked at stays, another site changes nothing and learns nothing,
--- and no page depends on what its caller may not see.
+-- and no page depends on what its caller may not see, nor does what is told of a text that isn't sent.
 use Rattle.std.specs.Prelude.{◌≡◌, ◌≢◌, ℕ, Bool, false, if◌then◌else◌, List, []}
-use Rattle.std.specs.Prelude.{Option, Some, None}
+use Rattle.std.specs.Prelude.{Option, Some, None, Result, Err}
 use Rattle.httparse.specs.Grammar.{RequestHead}
 use Rattle.settings_core.specs.declared.settings.Settings.{Settings}
 use Rattle.desk_model.specs.Desk.{Desk}
 use Rattle.desk_model.specs.IsDesk.{IsDesk}
 use Rattle.desk_model.specs.View.{view}
+use Rattle.desk_model.specs.declared.answer.Dossier.{Dossier}
+use Rattle.desk_model.specs.declared.refusal.Refusal.{Refusal}
 use Rattle.desk_model.specs.declared.refusal.Refusal.TheVariants.{Unavailable}
 use Rattle.desk_forms.specs.declared.paths.Method.TheVariants.{Get, Post}
 use Rattle.message_core.specs.Head.{StartsWith}
@@ -16,10 +18,13 @@ use Rattle.page_routes.specs.Places.{method_named, place_at, takes_post}
 use Rattle.page_routes.specs.Visits.{is_own}
 use Rattle.page_routes.specs.declared.fault.PageFault.{PageFault}
 use Rattle.page_routes.specs.declared.fault.PageFault.TheVariants.{NoRoute, BadMethod, OtherSite}
+use Rattle.page_routes.specs.declared.next.SubmittedForm.{SubmittedForm}
 use Rattle.page_routes.specs.declared.page.Page as routes
 use Rattle.page_routes.specs.declared.place.Place.{Place}
+use Rattle.service_core.specs.Dossiers.{IsDossier}
 use Rattle.wire_core.specs.Replies.{is_head}
 use Rattle.page_wire.specs.Faults.{fault_reply}
+use Rattle.page_wire.specs.Overtaken.{told_before}
 use Rattle.page_wire.specs.Replies.{refused}
 use Rattle.page_wire.specs.Steps.{LookSteps, RequestPageSteps, Tells}
 
@@ -61,3 +66,12 @@ PagesAlike = (settings : Settings) (at : ℕ) (caller : List ℕ) (page : routes
     → LookSteps settings at caller page one bytes after
     → LookSteps settings at caller page other told last
     → AreAlike (out_of_memory caller at) bytes told
+
+-- and the same is told there of a text that isn't sent, where both desks can look
+abbrev pub TextsAlike : Type 0
+TextsAlike = (settings : Settings) (at : ℕ) (caller : List ℕ) (id : ℕ) (sent : SubmittedForm)
+    (one other : Desk) (result results : Result Dossier Refusal) → IsDesk one → IsDesk other
+    → view settings caller one ≡ view settings caller other
+    → IsDossier settings at caller id one result → IsDossier settings at caller id other results
+    → result ≢ Err Unavailable → results ≢ Err Unavailable
+    → told_before caller at sent result ≡ told_before caller at sent results

@@ -4,6 +4,7 @@ pub mod HeadOnly
 pub mod Health
 pub mod Laws
 pub mod Next
+pub mod Overtaken
 pub mod Redirect
 pub mod Replies
 pub mod Steps

@@ -20,14 +20,14 @@ is_blank text = list_all is_space text
 -- was chosen with a reply
 abbrev pub next_text : SubmittedForm → Option (List ℕ)
 next_text (sent.New queue subject requestors text status) = if is_blank text then None else Some text
-next_text (sent.Reply id text status) = status
+next_text (sent.Reply id seen text status) = status
 next_text _ = None
 
 -- the first text is a reply to the request that was filed
 abbrev pub with_text : SubmittedForm → Answer → List ℕ → Option Command
 with_text (sent.New queue subject requestors typed status) (answer.Created id) text =
     Some (command.Reply id text)
-with_text (sent.Reply id typed chosen) answer status = Some (command.SetStatus id status)
+with_text (sent.Reply id seen typed chosen) answer status = Some (command.SetStatus id status)
 with_text _ _ _ = None
 
 -- the second command, after this answer to the first

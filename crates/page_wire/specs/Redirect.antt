@@ -18,6 +18,6 @@ led_home = way_to (path_of Home)
 abbrev pub led_by : SubmittedForm → List ℕ
 led_by sent.Queue = led_home
 led_by (sent.New queue subject requestors text status) = led_home
-led_by (sent.Reply id text status) = led_to id
+led_by (sent.Reply id seen text status) = led_to id
 led_by (sent.Comment id text) = led_to id
 led_by (sent.Change id) = led_to id

@@ -87,12 +87,12 @@ no_answer caller at = refused caller at Unavailable
 abbrev pub sign_in_form : SubmittedForm → Bool → List Part
 sign_in_form sent.Queue unknown = sign_in_page (form_path sent.Queue) unknown false
 sign_in_form (sent.New queue subject requestors text status) unknown =
-    kept_page (form_path (sent.New queue subject requestors text status)) subject requestors text
+    kept_page (form_path (sent.New queue subject requestors text status)) subject requestors 0 text
     (unwrap_or status []) unknown
-sign_in_form (sent.Reply id text status) unknown =
-    kept_page (form_path (sent.Reply id text status)) [] [] text (unwrap_or status []) unknown
+sign_in_form (sent.Reply id seen text status) unknown =
+    kept_page (form_path (sent.Reply id seen text status)) [] [] seen text (unwrap_or status []) unknown
 sign_in_form (sent.Comment id text) unknown =
-    kept_page (form_path (sent.Comment id text)) [] [] text [] unknown
+    kept_page (form_path (sent.Comment id text)) [] [] 0 text [] unknown
 sign_in_form (sent.Change id) unknown = sign_in_page (form_path (sent.Change id)) unknown false
 
 abbrev pub sign_in : ℕ → Next → Bool → Bool → List ℕ
@@ -192,8 +192,8 @@ abbrev pub unsent_form : List ℕ → ℕ → SubmittedForm → Unsent → List 
 unsent_form caller at sent.Queue why = unsent_page why caller at
 unsent_form caller at (sent.New queue subject requestors text status) why =
     unsent_ask_page why caller at queue subject text requestors status
-unsent_form caller at (sent.Reply id text status) why =
-    unsent_reply_page why caller at id text status
+unsent_form caller at (sent.Reply id seen text status) why =
+    unsent_reply_page why caller at id seen text status
 unsent_form caller at (sent.Comment id text) why = unsent_comment_page why caller at id text
 unsent_form caller at (sent.Change id) why = unsent_change_page why caller at id
 
@@ -216,7 +216,7 @@ resumed_reply https caller at cookie keep sent =
 abbrev pub half_form : List ℕ → ℕ → SubmittedForm → Answer → Refusal → List Part
 half_form caller at (sent.New queue subject requestors text status) (answer.Created id) refusal =
     filed_page refusal caller at id text
-half_form caller at (sent.Reply id text status) answer refusal =
+half_form caller at (sent.Reply id seen text status) answer refusal =
     replied_page refusal caller at id (unwrap_or status [])
 half_form caller at other answer refusal = refusal_page refusal caller at
 

@@ -1,10 +1,8 @@
 -- A text that is sent twice: by a second press, or by Back and another press.
 use Rattle.std.specs.Prelude.{ℕ, ◌-◌, Bool, true, false, ◌&&◌, nat_le, List, Option, Some, None}
-use Rattle.std.specs.Prelude.{Result, Ok, Err}
 use Rattle.std.specs.List.{list_any}
 use Rattle.std.specs.Str.{bytes_eq}
 use Rattle.desk_model.specs.declared.answer.Dossier.{Dossier}
-use Rattle.desk_model.specs.declared.refusal.Refusal.{Refusal}
 use Rattle.desk_model.specs.declared.rows.Entry.{Entry}
 use Rattle.desk_model.specs.declared.rows.EntryKind.{EntryKind}
 use Rattle.desk_model.specs.declared.rows.EntryKind.TheVariants as kind
@@ -13,13 +11,13 @@ use Rattle.page_routes.specs.declared.next.SubmittedForm.TheVariants as sent
 
 -- the request to which a form sends a text
 abbrev pub told_request : SubmittedForm → Option ℕ
-told_request (sent.Reply id text status) = Some id
+told_request (sent.Reply id seen text status) = Some id
 told_request (sent.Comment id text) = Some id
 told_request _ = None
 
 -- an entry of that kind with that text
 abbrev pub says : SubmittedForm → EntryKind → List ℕ → Bool
-says (sent.Reply id text status) kind.Reply body = bytes_eq text body
+says (sent.Reply id seen text status) kind.Reply body = bytes_eq text body
 says (sent.Comment id text) kind.Comment body = bytes_eq text body
 says _ _ body = false
 
@@ -34,14 +32,10 @@ is_status (Some chosen) status = bytes_eq chosen status
 
 -- the request has the status that was chosen with a reply, where one was
 abbrev pub has_moved : SubmittedForm → Dossier → Bool
-has_moved (sent.Reply id text status) dossier = is_status status dossier.shown.row.status
+has_moved (sent.Reply id seen text status) dossier = is_status status dossier.shown.row.status
 has_moved _ dossier = true
 
 -- what the form asks was done already
 abbrev pub is_told : List ℕ → ℕ → SubmittedForm → Dossier → Bool
 is_told caller at sent dossier =
     has_moved sent dossier && list_any (is_of caller at sent) dossier.entries
-
-abbrev pub was_sent : List ℕ → ℕ → SubmittedForm → Result Dossier Refusal → Bool
-was_sent caller at sent (Ok dossier) = is_told caller at sent dossier
-was_sent caller at sent (Err refusal) = false

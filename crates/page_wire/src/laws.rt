@@ -1,5 +1,5 @@
 //! What holds of all pages: the contracts of functions that do nothing.
-ghost use Rattle.page_wire.specs.Laws.{LooksLeave, OtherSitesLeave, PagesAlike};
+ghost use Rattle.page_wire.specs.Laws.{LooksLeave, OtherSitesLeave, PagesAlike, TextsAlike};
 
 /// Whatever GET and HEAD ask of the pages, the desk stays.
 pub fn look_law()
@@ -16,4 +16,10 @@ pub fn other_site_law()
 /// where neither was out of memory.
 pub fn page_alike_law()
     ensures { PagesAlike }
+{}
+
+/// Nor by what is told of a text that isn't sent, as of a reply that somebody overtook: on such desks it
+/// is the same.
+pub fn text_alike_law()
+    ensures { TextsAlike }
 {}

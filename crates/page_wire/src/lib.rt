@@ -5,7 +5,8 @@
 //! the interface's step, byte for byte.
 //!
 //! A form may ask for two commands. The second is done only after the first, and where it is refused
-//! the reply says what was done and what wasn't.
+//! the reply says what was done and what wasn't. Before the first, a text that is sent to a request is
+//! held back where it was sent already, or where somebody wrote while it was written.
 #![tactic(auto)]
 
 mod faults;
@@ -14,6 +15,7 @@ mod head_only;
 mod health;
 pub mod laws;
 mod next;
+mod overtaken;
 mod pages;
 mod redirect;
 mod render;

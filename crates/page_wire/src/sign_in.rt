@@ -70,35 +70,42 @@ fn sign_in_form(alloc: Global, sent: &SubmittedForm, unknown: bool) -> Result<Ve
                 text: text.as_str(),
                 requestors: requestors.as_str(),
             };
-            kept_page(alloc, next, typed, chosen(status), unknown)
+            kept_page(alloc, next, typed, 0, chosen(status), unknown)
         }
-        SubmittedForm::Reply { text, status, .. } => {
-            kept_text(alloc, next, text.as_str(), chosen(status), unknown)
+        SubmittedForm::Reply {
+            seen,
+            text,
+            status,
+            ..
+        } => kept_text(alloc, next, *seen, text.as_str(), chosen(status), unknown),
+        SubmittedForm::Comment { text, .. } => {
+            kept_text(alloc, next, 0, text.as_str(), "", unknown)
         }
-        SubmittedForm::Comment { text, .. } => kept_text(alloc, next, text.as_str(), "", unknown),
         SubmittedForm::Queue | SubmittedForm::Change { .. } => {
             sign_in_page(alloc, next, unknown, false)
         }
     }
 }
 
-/// The page with which a text alone comes along, and a status.
+/// The page with which a text alone comes along, with the number of the last entry that was seen, and a
+/// status.
 fn kept_text(
     alloc: Global,
     next: &str,
+    seen: u32,
     text: &str,
     status: &str,
     unknown: bool,
 ) -> Result<Vec<u8>, AllocError>
     ensures { IfOk result (λ out. out.items
-        ≡ page_bytes (asking.kept_page next.now [] [] text.now status.now unknown)) }
+        ≡ page_bytes (asking.kept_page next.now [] [] seen text.now status.now unknown)) }
 {
     let typed = Typed {
         subject: "",
         text,
         requestors: "",
     };
-    kept_page(alloc, next, typed, status, unknown)
+    kept_page(alloc, next, typed, seen, status, unknown)
 }
 
 /// The status that was chosen, and nothing where none was.

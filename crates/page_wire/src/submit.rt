@@ -14,8 +14,8 @@ ghost use Rattle.wire_core.specs.Steps.{StaysOn};
 
 use crate::follow_up::run_follow_up;
 use crate::next::{follow_up_command, next_text};
-use crate::redirect::put_redirect_by;
-use crate::twice::{told_request, was_sent};
+use crate::overtaken::told_before;
+use crate::twice::told_request;
 use crate::unsent::refused_reply;
 use desk_core::{Answer, Command, Refusal, refusal_without_facts};
 use hours_core::Minute;
@@ -28,8 +28,8 @@ use text_core::Text;
 
 /// Does what a form asks for, its second command only where the first isn't refused, and puts its
 /// reply into the room. What the second would be refused for on every desk is refused before the
-/// first, and what was sent already isn't sent again. Out of memory nothing is done, and nothing is
-/// put.
+/// first, what was sent already isn't sent again, and a reply that somebody overtook isn't sent yet. Out
+/// of memory nothing is done, and nothing is put.
 #[tactic(auto, using(service_core::proofs::LeftLemmas::left_same))]
 pub(crate) fn submit_form<S: Backend>(
     alloc: Global,
@@ -88,7 +88,7 @@ fn refusal_of(
 }
 
 /// Does what a form asks for whose second command isn't refused beforehand, unless it sends a text
-/// that was sent already.
+/// that is held back.
 #[tactic(auto, using(service_core::proofs::LeftLemmas::left_same))]
 fn submit_once<S: Backend>(
     alloc: Global,
@@ -109,13 +109,13 @@ fn submit_once<S: Backend>(
     ensures left { LeavesDesk S.Store desk.old desk.new }
 {
     match told_request(sent) {
-        Some(id) => submit_unless_sent(alloc, caller, command, sent, id, moment, desk, room),
+        Some(id) => submit_unless_told(alloc, caller, command, sent, id, moment, desk, room),
         None => submit_both(alloc, caller, command, sent, moment, desk, room),
     }
 }
 
-/// The same with a text for this request: what was sent already leads where it led then.
-fn submit_unless_sent<S: Backend>(
+/// The same with a text for this request: where it is held back, that is told, and nothing is done.
+fn submit_unless_told<S: Backend>(
     alloc: Global,
     caller: &str,
     command: &Command,
@@ -135,13 +135,15 @@ fn submit_unless_sent<S: Backend>(
     ensures left { LeavesDesk S.Store desk.old desk.new }
 {
     let dossier = desk.dossier(alloc, moment.get(), caller, id);
-    let is_there = was_sent(caller, moment, sent, &dossier);
+    let told = told_before(alloc, caller, moment, sent, &dossier);
     drop(dossier);
-    if is_there {
-        put_redirect_by(sent, room);
-        Ok(())
-    } else {
-        submit_both(alloc, caller, command, sent, moment, desk, room)
+    match told {
+        Ok(Some(bytes)) => {
+            *room = bytes;
+            Ok(())
+        }
+        Ok(None) => submit_both(alloc, caller, command, sent, moment, desk, room),
+        Err(_) => Err(AllocError),
     }
 }
 

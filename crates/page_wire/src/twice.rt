@@ -3,7 +3,7 @@ ghost use Rattle.std.specs.Prelude.{◌≡◌};
 ghost use Rattle.std.specs.List.{list_any};
 ghost use Rattle.page_wire.specs.Twice as form;
 
-use desk_core::{Dossier, Refusal};
+use desk_core::Dossier;
 use desk_model::{Entry, EntryKind};
 use hours_core::Minute;
 use page_routes::SubmittedForm;
@@ -22,22 +22,9 @@ pub(crate) fn told_request(sent: &SubmittedForm) -> Option<u32>
     }
 }
 
-/// Whether the caller has sent the text of a form already, by what the dossier tells.
-pub(crate) fn was_sent(
-    caller: &str,
-    moment: Minute,
-    sent: &SubmittedForm,
-    dossier: &Result<Dossier, Refusal>,
-) -> bool
-    ensures { result ≡ form.was_sent caller.now moment sent.now dossier.now }
-{
-    match dossier {
-        Ok(dossier) => is_told(caller, moment, sent, dossier),
-        Err(_) => false,
-    }
-}
-
-fn is_told(caller: &str, moment: Minute, sent: &SubmittedForm, dossier: &Dossier) -> bool
+/// Whether what a form asks was done already: the caller has sent its text, and the request has the
+/// status that was chosen.
+pub(crate) fn is_told(caller: &str, moment: Minute, sent: &SubmittedForm, dossier: &Dossier) -> bool
     ensures { result ≡ form.is_told caller.now moment sent.now dossier.now }
 {
     has_moved(sent, dossier) && tells(caller, moment, sent, dossier.entries.as_slice())

@@ -96,9 +96,14 @@ fn unsent_form(
             let (queue, status) = (queue.as_str(), as_str(status));
             unsent_ask_page(alloc, why, caller, moment, queue, typed, status)
         }
-        SubmittedForm::Reply { id, text, status } => {
-            let status = as_str(status);
-            unsent_reply_page(alloc, why, caller, moment, *id, text.as_str(), status)
+        SubmittedForm::Reply {
+            id,
+            seen,
+            text,
+            status,
+        } => {
+            let (text, status) = (text.as_str(), as_str(status));
+            unsent_reply_page(alloc, why, caller, moment, *id, *seen, text, status)
         }
         SubmittedForm::Comment { id, text } => {
             unsent_comment_page(alloc, why, caller, moment, *id, text.as_str())
@@ -108,7 +113,7 @@ fn unsent_form(
 }
 
 /// The status that was chosen.
-fn as_str(status: &Option<Text>) -> Option<&str>
+pub(crate) fn as_str(status: &Option<Text>) -> Option<&str>
     ensures { option_map (λ s. s.now) result ≡ status.now }
 {
     match status {

@@ -61,3 +61,12 @@ pub(crate) const ENTRY_END: &str = r#"</li>
 
 pub(crate) const HISTORY_END: &str = r#"</ol>
 "#;
+
+pub(crate) const NEWER_TOP: &str = r#"<section>
+<h2>What came meanwhile</h2>
+<ol class="history">
+"#;
+
+pub(crate) const NEWER_END: &str = r#"</ol>
+</section>
+"#;

@@ -16,6 +16,11 @@ pub(crate) const NOTE: &str = r#"<h1>{}</h1>
 <p class="alert">{}{}{}{}{}</p>
 "#;
 
+/// Who was quicker, and what that person did.
+pub(crate) const OVERTAKEN: &str = r#"<h1>{} {} while you were writing</h1>
+<p class="alert">Your reply wasn’t sent yet. Read what came meanwhile, and send it all the same, or change it.</p>
+"#;
+
 pub(crate) const TYPED_TOP: &str = r#"<div class="write">
 "#;
 

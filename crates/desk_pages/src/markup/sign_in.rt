@@ -9,9 +9,11 @@ pub(crate) const SIGN_IN: &str = r#"<h1>Desk</h1>
 <input type="hidden" name="next" value="{}">
 "#;
 
-/// What comes along: a subject, requestors, a text and a status.
+/// What comes along: a subject, requestors, the number of the last entry that was seen, a text and a
+/// status.
 pub(crate) const KEPT: &str = r#"<input type="hidden" name="subject" value="{}">
 <input type="hidden" name="requestors" value="{}">
+<input type="hidden" name="seen" value="{}">
 <input type="hidden" name="text" value="{}">
 <input type="hidden" name="status" value="{}">
 "#;
