@@ -266,9 +266,10 @@ def bodies():
             ("nobody's page", f"{at}/take", ""),
             ("two persons' page", f"{at}/take", "me=bob&me=bob"),
             ("no field", f"{at}/reply", "me=bob"),
-            ("half an escape", f"{at}/reply", "me=bob&text=%4"),
-            ("an escape that is none", f"{at}/reply", "me=bob&text=%zz"),
-            ("no UTF-8", f"{at}/reply", "me=bob&text=%ff%fe"),
+            ("no entry that was seen", f"{at}/reply", "me=bob&text=a"),
+            ("half an escape", f"{at}/reply", "me=bob&seen=1&text=%4"),
+            ("an escape that is none", f"{at}/reply", "me=bob&seen=1&text=%zz"),
+            ("no UTF-8", f"{at}/reply", "me=bob&seen=1&text=%ff%fe"),
             ("a role that is none", f"{at}/watch", "me=bob&role=owner&person=ann"),
             ("a kind that is none", f"{at}/link", "me=bob&kind=Likes&other=1"),
         ):
@@ -280,11 +281,11 @@ def bodies():
             expect(f"{what}: it is taken", visitor.post(f"{at}/reply", {"text": text}).code, 303)
             last = visitor.told(f"/requests/{TALK}/history").text.splitlines()[-1]
             expect(f"{what}: as it is kept", last.partition("reply ")[2], wanted)
-        expect("a lone CR", visitor.post(f"{at}/reply", "me=bob&text=a%0Db").code, 400)
+        expect("a lone CR", visitor.post(f"{at}/reply", f"me=bob&seen={visitor.seen(at)}&text=a%0Db").code, 400)
         longest = {"text": "漢" * 20_000}
         expect("the longest text", visitor.post(f"{at}/reply", longest).code, 303)
         holds("it is shown whole", longest["text"] in visitor.get(at).text)
-        reply = visitor.post(f"{at}/reply", "me=bob&text=" + "a" * 300_000)
+        reply = visitor.post(f"{at}/reply", "me=bob&seen=1&text=" + "a" * 300_000)
         expect("a body that is too long", (reply.code, "bad message 1 TooLong" in reply.text),
                (400, True))
 
@@ -321,13 +322,15 @@ def signed_out():
         at = f"/desk/requests/{TALK}"
         before = visitor.told(f"/requests/{TALK}/history").body
         text = "\n A <b>text</b> & \"more\"\n\n"
-        for place, fields in ((f"{at}/reply", {"text": text, "status": "stalled"}), (f"{at}/comment", {"text": text}),
+        for place, fields in ((f"{at}/reply", {"seen": "1", "text": text, "status": "stalled"}),
+                              (f"{at}/comment", {"text": text}),
                               ("/desk/queues/support/new", {"subject": "<i>A badge", "requestors": "ann", "text": text,
                                                             "status": "open"})):
             reply = visitor.post(place, {"me": "bob", **fields}, None)
             page(f"sent by nobody to {place}", reply, 403)
             kept = markup.hidden(reply.text, "/sign-in")
-            expect(f"{place}: what comes along", {it: kept[it] for it in kept if kept[it]}, {"next": place, **fields})
+            expect(f"{place}: what comes along", {it: kept[it] for it in kept if kept[it]},
+                   {"next": place, "seen": "0", **fields})
             again = visitor.post("/sign-in", kept | {"token": "none"}, None)
             page(f"{place}: an unknown token", again, 403)
             expect(f"{place}: what comes along then", markup.hidden(again.text, "/sign-in"), kept)
@@ -336,7 +339,9 @@ def signed_out():
             holds(f"{place}: no cookie", (reply.head("set-cookie") or "").startswith("desk=bob."))
             holds(f"{place}: it isn't said", any(of_who_signed_in("bob") in it for it in markup.texts(reply.text)))
             expect(f"{place}: whose form", markup.hidden(reply.text, place).get("me"), "bob")
-            lost = [it for it in fields.values() if not any(it in one for one in markup.texts(reply.text))]
+            expect(f"{place}: what was seen", markup.hidden(reply.text, place).get("seen"), fields.get("seen"))
+            lost = [it for name, it in fields.items()
+                    if name != "seen" and not any(it in one for one in markup.texts(reply.text))]
             expect(f"{place}: what was typed and isn't kept", lost, [])
         reply = visitor.post(f"{at}/take", {"me": "bob"}, None)
         expect("a press by nobody leads to", markup.hidden(reply.text, "/sign-in"), {"next": at})

@@ -1,5 +1,6 @@
 """A visitor without a browser: asks for pages with a person's cookie, and sends forms as a browser
 would, or as it never would."""
+import re
 import urllib.parse
 from dataclasses import dataclass
 
@@ -58,12 +59,20 @@ class Visitor:
         return self.send(f"GET {path}", self.lines_of(person, more))
 
     def post(self, path, fields, person="bob", more=None):
-        """A form, of the desk's own pages and of this person's unless other lines or fields say otherwise."""
+        """A form, of the desk's own pages and of this person's unless other lines or fields say otherwise. A reply
+        tells the last entry that the person's page shows just now."""
         origin = [f"Origin: {self.origin}", "Sec-Fetch-Site: same-origin"] if more is None else more
         kind = "Content-Type: application/x-www-form-urlencoded"
         mine = {"me": person} if path.startswith("/desk/") and path != "/desk/go" else {}
+        if path.startswith("/desk/") and path.endswith("/reply") and not isinstance(fields, (str, bytes)):
+            mine["seen"] = fields.get("seen") or self.seen(path.rpartition("/")[0], person)
         body = fields if isinstance(fields, (str, bytes)) else form(mine | fields)
         return self.send(f"POST {path}", self.lines_of(person, [kind, *origin]), body)
+
+    def seen(self, path, person="bob"):
+        """The number of the last entry of a request's page, as its form for a reply has it; 1 without such a form."""
+        found = re.search(r'name="seen" value="(\d+)"', self.get(path, person).text)
+        return found[1] if found else "1"
 
     def told(self, path, person="bob"):
         """What the interface for programs answers."""

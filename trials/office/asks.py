@@ -19,7 +19,7 @@ PAGES = {"queues": "home", "ls": "queue", "show": "request", "history": "request
 class Ask:
     """A command or a reading: when, in which way, by whom, its name and its words. A number of a request
     is that of the plan, and so is `key`, of one that it files. `then` is the second command of a form: a
-    first text, or a status."""
+    first text, or a status. `seen` is the last entry that was told to who sends a reply by a form."""
     at: int
     way: str
     by: str
@@ -27,6 +27,7 @@ class Ask:
     words: list = field(default_factory=list)
     then: str | None = None
     key: int | None = None
+    seen: int = 0
 
     @classmethod
     def of(cls, table):

@@ -123,8 +123,9 @@ class Browser:
         reply = self.send(path, {**(hidden or {}), **fields}, [])
         kept = self.is_asked_to_sign_in(ask.by, path if "text" in fields else form_page(ask)[0], reply)
         if kept and "text" in fields:
-            given = {name: feeds(it) for name, it in fields.items()}
-            comes = {name: feeds(kept.get(name, "")) for name in fields}
+            seen = {"seen": hidden["seen"]} if hidden and "seen" in hidden else {}
+            given = {name: feeds(it) for name, it in {**seen, **fields}.items()}
+            comes = {name: feeds(kept.get(name, "")) for name in given}
             if comes != given:
                 raise Differs(f"{path} for {ask.by}: {comes} comes along in place of {given}")
         self.counts["signed out in another tab"] += 1
@@ -166,7 +167,9 @@ class Browser:
         path, fields = form(ask)
         if not self.ready(ask.by):
             return None
-        self.last = reply = self.send(path, {"me": ask.by, **(hidden or {}), **fields}, [f"Cookie: desk={self.kept[ask.by].value}"])
+        seen = {"seen": str(ask.seen)} if ask.name == "correspond" else {}
+        self.last = reply = self.send(path, {"me": ask.by, **seen, **(hidden or {}), **fields},
+                                      [f"Cookie: desk={self.kept[ask.by].value}"])
         if reply is None:
             return None
         if reply.code == 303:

@@ -41,6 +41,9 @@ def by_form(desk, ask):
         refuse_beforehand(ask)
         if was_sent(desk, ask):
             return 303, f"/desk/requests/{ask.words[0]}#reply"
+        if is_overtaken(desk, ask):
+            return 409, {"refused": None, "back": f"/desk/requests/{ask.words[0]}",
+                         "typed": ask.words[1].replace("\r\n", "\n")}
         for name, words in commands(ask, len(desk.requests) + 1):
             answer = desk.ask(ask.at, ask.by, name, words)
             filed, done = (answer, True) if name == "create" else (filed, True)
@@ -64,6 +67,26 @@ def was_sent(desk, ask):
     has_moved = not ask.then or desk.request_of(number).status == ask.then
     return has_moved and any((it.kind, it.actor, it.body) == (kind, ask.by, text) and ask.at - it.moment <= 10
                              for it in told)
+
+
+def last_told(desk, ask):
+    """The number of the last entry that is told of the request of a reply, or 0."""
+    try:
+        return desk.ask(ask.at, ask.by, "history", [ask.request() or 0])[-1].number
+    except Refused:
+        return 0
+
+
+def is_overtaken(desk, ask):
+    """Whether somebody else replied, moved the request or changed its owner behind the last entry that was told
+    to who replies."""
+    if ask.name != "correspond":
+        return False
+    try:
+        told = desk.ask(ask.at, ask.by, "history", [ask.words[0]])
+    except Refused:
+        return False
+    return any(it.number > ask.seen and it.actor != ask.by and it.kind in ("reply", "status", "owner") for it in told)
 
 
 def refuse_beforehand(ask):
