@@ -55,7 +55,7 @@ use Rattle.desk_pages.specs.Rows.{asking, cells, late_by, row, row_end, row_told
 use Rattle.desk_pages.specs.Search.{chosen_in, search_form}
 use Rattle.desk_pages.specs.SignIn.{kept, sign_in_page}
 use Rattle.desk_pages.specs.Sought.{heading_of, is_told, place_of, title_of, told}
-use Rattle.desk_pages.specs.Unsent.{ahead_heading, ahead_note, other_heading, other_note, said_of}
+use Rattle.desk_pages.specs.Unsent.{ahead_note, other_heading, other_note, said_of, waiting_heading}
 use Rattle.desk_pages.specs.Workload.{late_told, most}
 use Rattle.desk_pages.specs.Write.{move_too, reply}
 use Rattle.desk_pages.specs.declared.frame.Place.TheVariants as at
@@ -507,7 +507,7 @@ form_that_is_ahead :
     page_bytes ahead_note
     ≡ codes "<h1>Your reply wasn" ++ quote ++ codes "t sent yet</h1>\n<p class=\"alert\">The history doesn"
     ++ quote ++ codes "t go as far as this form says. Look at the request, and press the button.</p>\n"
-unfolding ahead_heading ahead_note filled_from
+unfolding waiting_heading ahead_note filled_from
 form_that_is_ahead = refl
 
 -- ---- what is told of a refusal

@@ -7,7 +7,7 @@ use Rattle.page_core.specs.Template.{through}
 use Rattle.page_core.proofs.Same.{same_both, same_filled}
 use Rattle.desk_pages.specs.History.{kinds_told, last_number, newer_entries}
 use Rattle.desk_pages.specs.Overtaken.{overtaken, overtaken_page}
-use Rattle.desk_pages.specs.Unsent.{ahead_heading}
+use Rattle.desk_pages.specs.Unsent.{waiting_heading}
 use Rattle.desk_pages.specs.declared.frame.Place.TheVariants.{Elsewhere}
 use Rattle.desk_pages.specs.declared.markup.refused.TheConstants.{OVERTAKEN}
 use Rattle.desk_pages.proofs.Frames.{same_bottom, same_top}
@@ -29,7 +29,7 @@ overtaken_same caller another moment later entry other dossier file seen last te
     chosen kinds same =
     let id = dossier.shown.row.id in
     let n = file.shown.row.id in
-    same_both (same_top ahead_heading ahead_heading Elsewhere caller another)
+    same_both (same_top waiting_heading waiting_heading Elsewhere caller another)
     (same_both
     (same_both (same_crumb id n)
     (same_both (same_overtaken entry other)

@@ -10,7 +10,7 @@ use Rattle.desk_pages.specs.Frame.{bottom, top}
 use Rattle.desk_pages.specs.History.{last_number, newer}
 use Rattle.desk_pages.specs.RefusalPage.{typed}
 use Rattle.desk_pages.specs.Refused.{crumb, to_request}
-use Rattle.desk_pages.specs.Unsent.{ahead_heading}
+use Rattle.desk_pages.specs.Unsent.{waiting_heading}
 use Rattle.desk_pages.specs.Write.{reply}
 use Rattle.desk_pages.specs.declared.frame.Place.TheVariants as place
 use Rattle.desk_pages.specs.declared.markup.refused.TheConstants.{OVERTAKEN}
@@ -41,5 +41,5 @@ overtaken_content caller entry dossier seen text status =
 -- meanwhile
 abbrev pub overtaken_page : List ℕ → ℕ → Entry → Dossier → ℕ → List ℕ → Option (List ℕ) → List Part
 overtaken_page caller moment entry dossier seen text status =
-    top ahead_heading place.Elsewhere caller
+    top waiting_heading place.Elsewhere caller
     ++ (overtaken_content caller entry dossier seen text status ++ bottom moment)

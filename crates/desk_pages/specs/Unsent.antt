@@ -29,23 +29,24 @@ own_note caller =
     ∷ codes ", but nothing was sent yet. Look at what you typed, and press the button."
     ∷ [] ∷ [] ∷ []) []
 
--- it tells of an entry that its page didn't show
-unfoldable pub ahead_heading : List ℕ
-ahead_heading = codes "Your reply wasn" ++ (quote ++ codes "t sent yet")
+-- a reply waits
+unfoldable pub waiting_heading : List ℕ
+waiting_heading = codes "Your reply wasn" ++ (quote ++ codes "t sent yet")
 
+-- since it tells of an entry that the history doesn't have
 unfoldable pub ahead_note : List Part
 ahead_note =
     filled NOTE.now
-    (ahead_heading
-    ∷ (codes "The history doesn" ++ (quote ++ codes "t go as far as this form says. Look at the request, and press the button."))
-    ∷ [] ∷ [] ∷ [] ∷ [] ∷ []) []
+    (waiting_heading
+    ∷ (codes "The history doesn" ++ (quote ++ codes "t go as far as this form says. "))
+    ∷ codes "Look at the request, and press the button." ∷ [] ∷ [] ∷ [] ∷ []) []
 
 -- the heading, and what is said to a caller
 abbrev pub title_of : Unsent → List ℕ
 title_of (Refused refusal) = heading_of refusal
 title_of (OtherPerson person) = other_heading
 title_of SignedIn = own_heading
-title_of Ahead = ahead_heading
+title_of Ahead = waiting_heading
 
 abbrev pub said_of : Unsent → List ℕ → List Part
 said_of (Refused refusal) caller = notice_of refusal

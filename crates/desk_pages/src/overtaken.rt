@@ -9,7 +9,7 @@ use crate::history::{last_number, put_newer};
 use crate::markup::refused::OVERTAKEN;
 use crate::refusal::put_reply_form;
 use crate::refused::{put_crumb, put_to_request};
-use crate::unsent::ahead_heading;
+use crate::unsent::waiting_heading;
 use desk_model::{Dossier, Entry, EntryKind};
 use hours_core::Minute;
 use page_core::{Value, fill};
@@ -33,7 +33,7 @@ pub fn overtaken_page(
         (option_map (λ s. s.now) status.entry))) }
 {
     let mut out = Vec::new(alloc);
-    put_top(&mut out, ahead_heading(), Place::Elsewhere, caller)?;
+    put_top(&mut out, waiting_heading(), Place::Elsewhere, caller)?;
     put_content(&mut out, caller, entry, dossier, seen, text, status)?;
     put_bottom(&mut out, moment)?;
     Ok(out)

@@ -32,14 +32,14 @@ pub(crate) fn title_of(why: &Unsent) -> &'static str
         Unsent::Refused(refusal) => heading_of(refusal),
         Unsent::OtherPerson(_) => "This form was another person’s",
         Unsent::SignedIn => "You are signed in",
-        Unsent::Ahead => ahead_heading(),
+        Unsent::Ahead => waiting_heading(),
     }
 }
 
 /// The heading of what is said of a reply that waits.
-#[tactic(auto, unfolding(crate::specs::Unsent::ahead_heading))]
-pub(crate) fn ahead_heading() -> &'static str
-    ensures { result.now ≡ form.ahead_heading }
+#[tactic(auto, unfolding(crate::specs::Unsent::waiting_heading))]
+pub(crate) fn waiting_heading() -> &'static str
+    ensures { result.now ≡ form.waiting_heading }
 {
     "Your reply wasn’t sent yet"
 }
@@ -57,16 +57,14 @@ pub(crate) fn put_why(out: &mut Vec<u8>, why: &Unsent, caller: &str) -> Result<(
     }
 }
 
-#[tactic(auto, unfolding(crate::specs::Unsent::ahead_heading, crate::specs::Unsent::ahead_note))]
+#[tactic(auto, unfolding(crate::specs::Unsent::waiting_heading, crate::specs::Unsent::ahead_note))]
 fn put_ahead(out: &mut Vec<u8>) -> Result<(), AllocError>
     ensures { OnOk result (out.new.items ≡ out.old.items ++ page_bytes form.ahead_note) }
 {
     let values = [
         Value::Text("Your reply wasn’t sent yet"),
-        Value::Text(
-            "The history doesn’t go as far as this form says. Look at the request, and press the button.",
-        ),
-        Value::Text(""),
+        Value::Text("The history doesn’t go as far as this form says. "),
+        Value::Text("Look at the request, and press the button."),
         Value::Text(""),
         Value::Text(""),
         Value::Text(""),

@@ -17,7 +17,9 @@ use std::alloc::{AllocError, Global};
 use text_core::Text;
 
 /// The reply that is told in place of a text that isn't sent to a request, by its dossier: where the
-/// text was sent already, where somebody overtook it, and where the desk can't look.
+/// text was sent already, it leads there; where somebody overtook a reply, or where its form tells of an
+/// entry behind the last one, 409 and the form with the text once more; and where the desk can't look,
+/// 503.
 pub(crate) fn told_before(
     alloc: Global,
     caller: &str,
