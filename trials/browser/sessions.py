@@ -26,8 +26,8 @@ def pressed_twice():
         browser = signed_in(visitor, "bob", AT)
         for times in (2, 3):
             for gap in GAPS:
-                text = f"pressed {times} times, {gap} apart."
-                browser.put(f"{FORM} textarea", text)
+                text = f"pressed {times} times, {gap} apart"
+                browser.put(f"{FORM} textarea", f"{text}!")
                 visitor.server.send_signal(signal.SIGSTOP)
                 try:
                     browser.forget("Page.loadEventFired")
