@@ -109,4 +109,27 @@ def lasting():
         expect("sent by nobody", times_told(visitor, "typed before the change"), 0)
 
 
-PARTS = {"twice": pressed_twice, "tabs": two_tabs, "lasting": lasting}
+def overtaken():
+    """A reply waits where somebody else wrote meanwhile, whose text is read first, and goes when it is pressed again. A
+    comment doesn't wait."""
+    with serving("overtaken") as visitor:
+        browser = signed_in(visitor, "bob", AT)
+        seen = browser.of_element(f"{FORM} [name=seen]", "it.value")
+        browser.put(f"{FORM} textarea", "typed meanwhile")
+        expect("the other's reply", visitor.post(f"{AT}/reply", {"text": "came first", "seen": seen}, "ann").code, 303)
+        browser.follow(f"{FORM} button")
+        holds("it isn't said who wrote", "ann wrote while you were writing" in browser.text("h1"))
+        holds("what came isn't shown", "came first" in browser.text())
+        expect("what was typed", browser.of_element("textarea", "it.value"), "typed meanwhile")
+        expect("sent unread", times_told(visitor, "typed meanwhile"), 0)
+        browser.follow(".write button")
+        expect("sent after it was read", times_told(visitor, "typed meanwhile"), 1)
+        expect("it leads to", browser.path(), AT)
+        seen = browser.of_element(f"{FORM} [name=seen]", "it.value")
+        browser.put("[action$='/comment'] textarea", "said beside it")
+        expect("the next", visitor.post(f"{AT}/reply", {"text": "came second", "seen": seen}, "ann").code, 303)
+        browser.follow("[action$='/comment'] button")
+        expect("a comment waits", times_told(visitor, "said beside it"), 1)
+
+
+PARTS = {"twice": pressed_twice, "tabs": two_tabs, "lasting": lasting, "overtaken": overtaken}
