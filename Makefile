@@ -9,7 +9,7 @@ JOBS ?= $(shell awk -v n=$$(nproc) '/^MemAvailable/ { j = 1 + int(($$2 / 1000000
 
 # The crates whose wrong edits the gate doesn't try, since they take long: page_wire's and wire_core's were
 # refused by 14 and 9 minutes and 5.8 and 6.9 GB. `make edits NAME=CRATE` tries one crate's.
-UNTRIED = desk_load page_wire wire_core
+UNTRIED = page_wire wire_core
 
 # All others that have any.
 EDITED = $(filter-out $(UNTRIED),$(sort $(foreach it,$(wildcard crates/*/wrong/*.edit),\
