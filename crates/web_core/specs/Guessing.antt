@@ -71,6 +71,11 @@ Guards proxied https settings at (Err fault) old guard new = LetsThrough old gua
 Guards proxied https settings at (Ok request) old guard new =
     GuardsRequest proxied https settings at request old guard new
 
+-- only a token that is sent may not be let through
+abbrev pub IsGuardOf : Result Request WireFault → Guard → Type 0
+IsGuardOf (Err fault) guard = guard ≡ Open
+IsGuardOf (Ok request) guard = sends_token request.message ≡ false → guard ≡ Open
+
 -- what is told of a token from an address that is barred
 abbrev pub barred_reply : Reply
 barred_reply = reply_with 429 None (codes "too many wrong tokens: try again in a minute\n") false

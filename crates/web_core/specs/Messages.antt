@@ -16,7 +16,7 @@ use Rattle.page_wire.specs.Steps.{IsReadOf, MessageReadSteps, Tells}
 use Rattle.server_core.specs.Turns.{Answered}
 use Rattle.web_core.specs.Control.{control_by, copy_told, stop_reply}
 use Rattle.web_core.specs.Dates.{IsDated}
-use Rattle.web_core.specs.Guessing.{barred_reply}
+use Rattle.web_core.specs.Guessing.{IsGuardOf, barred_reply}
 use Rattle.web_core.specs.declared.control.Control.{Control}
 use Rattle.web_core.specs.declared.control.Control.TheVariants.{Step, Expect, Bar, Unseen, Stop, Copy}
 use Rattle.web_core.specs.declared.guessing.Guard.{Guard}
@@ -42,10 +42,11 @@ IsTakenAs bytes read =
 abbrev pub TellsExpecting : List ℕ → Bool → Type 0
 TellsExpecting bytes expects = MatchBool expects (IsExpecting bytes) (¬ (IsExpecting bytes))
 
--- these bytes were read so, unless there was no memory to read them
+-- these bytes were read so, unless there was no memory to read them, and only a token isn't let through
 abbrev pub IsSeenOf : List ℕ → Seen → Type 0
 IsSeenOf bytes seen =
     TellsExpecting bytes seen.expects × (seen.read ≢ Err NoMemory → IsTakenAs bytes seen.read)
+    × IsGuardOf seen.read seen.guard
 
 -- A message is answered by the pages or the interface; out of memory nothing is done. For any other
 -- control the desk stays, and the reply tells it.

@@ -9,6 +9,7 @@ use Rattle.web_core.specs.Dates.{IsDatedAt}
 use Rattle.web_core.specs.Guessing.{Guards}
 use Rattle.web_core.specs.Messages.{Seen}
 use Rattle.web_core.specs.declared.control.Control.{Control}
+use Rattle.web_core.proofs.GuardLemmas.{only_tokens}
 use Rattle.web_core.proofs.MessageLemmas.{replied}
 use Rattle.web_core.proofs.NoteLemmas.{note_same}
 use Rattle.web_core.proofs.StepLemmas.{step_spared}
@@ -43,7 +44,13 @@ returns g c =
       refl,
       refl,
       (
-        (c.is_expecting-expects.ensures, c.taken-read.ensures),
+        (
+          c.is_expecting-expects.ensures,
+          c.taken-read.ensures,
+          only_tokens c.args.self.now.proxied c.args.self.now.https c.settings.result.now c.args.minute
+              c.taken-read.result c.args.self.now.guesses c.guarded-guard.result
+              c.guarded-guard.new.guesses c.guarded-guard.ensures,
+        ),
         subst (λ (t : Option ℕ). IsDatedAt t (bytes_of c.answer_to-whole.result)
             (bytes_of c.with_date-reply.result)) (sym c.second.ensures.told) c.with_date-reply.ensures,
         (
