@@ -5,7 +5,7 @@ import signal
 from pages import of_who_signed_in
 
 from browser import office
-from browser.office import TALK, TOKENS
+from browser.office import LAST, TALK, TOKENS
 from browser.trial import begin, expect, finish, holds, path, serving, signed_in
 
 AT = f"/desk/requests/{TALK}"
@@ -28,13 +28,7 @@ def pressed_twice():
             for gap in GAPS:
                 text = f"pressed {times} times, {gap} apart"
                 browser.put(f"{FORM} textarea", f"{text}!")
-                visitor.server.send_signal(signal.SIGSTOP)
-                try:
-                    browser.forget("Page.loadEventFired")
-                    browser.press_often(f"{FORM} button", times, gap)
-                finally:
-                    visitor.server.send_signal(signal.SIGCONT)
-                holds(f"{text} no page comes", browser.wait("Page.loadEventFired"))
+                press_while_it_stands(visitor, browser, f"{FORM} button", text, times, gap)
                 expect(text, times_told(visitor, text), 1)
                 expect(f"{text} it leads to", browser.path(), AT)
         text = "sent, and sent once more behind Back."
@@ -47,6 +41,47 @@ def pressed_twice():
         browser.put(f"{FORM} textarea", "and another.")
         browser.follow(f"{FORM} button")
         expect("another text", times_told(visitor, "and another."), 1)
+        filed_twice(visitor, browser)
+
+
+def filed_twice(visitor, browser):
+    """A request that is pressed two and three times while the server stands is filed once, and so it is after Back and
+    another press; the press leads to it. For another requestor it is another request."""
+    def type_in(subject, requestor):
+        browser.put("#subject", subject)
+        browser.put("#requestors", requestor)
+        browser.put("#text", f"{subject}.")
+
+    def filed(subject):
+        return visitor.told("/queues/support/requests").text.count(f" {subject}\n")
+
+    for number, (times, gap) in enumerate([(2, 30), (3, 150), (2, 700)], LAST + 1):
+        subject = f"filed by {times} presses, {gap} apart"
+        browser.open(f"{visitor.origin}/desk/queues/support/new")
+        type_in(subject, "ann")
+        press_while_it_stands(visitor, browser, ".sheet button", subject, times, gap)
+        expect(subject, filed(subject), 1)
+        expect(f"{subject} it leads to", browser.path(), f"/desk/requests/{number}")
+        expect(f"{subject} its text", visitor.told(f"/requests/{number}/history").text.count(f"{subject}."), 1)
+    browser.loads(lambda: browser.run("history.back()"))
+    type_in(subject, "ann")
+    browser.follow(".sheet button")
+    expect("filed once more behind Back", filed(subject), 1)
+    browser.loads(lambda: browser.run("history.back()"))
+    type_in(subject, "yuri")
+    browser.follow(".sheet button")
+    expect("filed for another person", filed(subject), 2)
+
+
+def press_while_it_stands(visitor, browser, button, told, times, gap):
+    """Presses a button so often while the server stands, and waits for the page that comes then."""
+    visitor.server.send_signal(signal.SIGSTOP)
+    try:
+        browser.forget("Page.loadEventFired")
+        browser.press_often(button, times, gap)
+    finally:
+        visitor.server.send_signal(signal.SIGCONT)
+    holds(f"{told} no page comes", browser.wait("Page.loadEventFired"))
 
 
 def two_tabs():

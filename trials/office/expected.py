@@ -41,6 +41,8 @@ def by_form(desk, ask):
         refuse_beforehand(ask)
         if was_sent(desk, ask):
             return 303, f"/desk/requests/{ask.words[0]}#reply"
+        if (number := filed_already(desk, ask)) is not None:
+            return 303, f"/desk/requests/{number}#reply"
         if is_overtaken(desk, ask):
             return 409, {"refused": None, "back": f"/desk/requests/{ask.words[0]}",
                          "typed": ask.words[1].replace("\r\n", "\n")}
@@ -67,6 +69,23 @@ def was_sent(desk, ask):
     has_moved = not ask.then or desk.request_of(number).status == ask.then
     return has_moved and any((it.kind, it.actor, it.body) == (kind, ask.by, text) and ask.at - it.moment <= 10
                              for it in told)
+
+
+def filed_already(desk, ask):
+    """The number of the newest request that the same person filed like this one in the last ten minutes, and may
+    see, if it is one of the last hundred: it isn't filed twice."""
+    if ask.name != "create":
+        return None
+    (_, (queue, subject, _, requestors)), *then = commands(ask, 0)
+    text = then[0][1][1] if then else None
+    for one in reversed(desk.requests[-100:]):
+        is_same = (one.queue.name, one.subject, one.entries[0].actor) == (queue, subject, ask.by)
+        persons = one.roles["requestor"]
+        has_same = persons == set(requestors) if requestors else persons <= {ask.by}
+        has_text = text is None or any((it.kind, it.actor, it.body) == ("reply", ask.by, text) for it in one.entries)
+        if is_same and has_same and has_text and ask.at - one.created <= 10 and desk.may_show(ask.by, one):
+            return one.number
+    return None
 
 
 def last_told(desk, ask):

@@ -24,7 +24,7 @@ use Rattle.page_wire.specs.Redirect.{led_to}
 use Rattle.page_wire.specs.Replies.{done_reply, half_form, other_person_reply, refused_reply}
 use Rattle.page_wire.specs.Replies.{sign_in_form, unsent_form, with_page}
 use Rattle.page_wire.specs.Overtaken.{is_ahead, overtaker, overtakes, told_before}
-use Rattle.page_wire.specs.Twice.{has_moved, is_of, is_status, is_told, told_request}
+use Rattle.page_wire.specs.Twice.{has_moved, is_of, is_status, is_told, told_if_filed, told_request}
 
 -- ---- the second command
 
@@ -302,6 +302,20 @@ request_that_is_not_shown = refl
 
 new_request_is_told_to_none : told_request (new (codes "Hi")) ≡ None
 new_request_is_told_to_none = refl
+
+-- ---- what was filed already
+
+filed_already_leads_to_it :
+    told_if_filed (codes "ann") 1000 (new (codes "Hi")) (Ok (Some 12)) ≡ Some (led_to 12)
+filed_already_leads_to_it = refl
+
+not_filed_yet_is_filed : told_if_filed (codes "ann") 1000 (new (codes "Hi")) (Ok None) ≡ None
+not_filed_yet_is_filed = refl
+
+filing_that_can_not_be_looked_for :
+    told_if_filed (codes "ann") 1000 (new (codes "Hi")) (Err refusal.Unavailable)
+    ≡ Some (refused_reply (codes "ann") 1000 (new (codes "Hi")) refusal.Unavailable)
+filing_that_can_not_be_looked_for = refl
 
 -- ---- signing in with a form
 

@@ -4,3 +4,4 @@ pub mod Answering
 pub mod HeadOnly
 pub mod PageLaws
 pub mod Steps
+pub mod TokenLemmas

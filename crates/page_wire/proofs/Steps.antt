@@ -9,9 +9,11 @@ use Rattle.desk_model.specs.Commands.{IsReading}
 use Rattle.desk_model.specs.Desk.{Desk}
 use Rattle.desk_model.specs.Step.{Ask, Outcome, Steps, desk_unless, effect, guard}
 use Rattle.desk_model.specs.declared.answer.Answer.{Answer}
+use Rattle.desk_model.specs.declared.answer.Answer.TheVariants.{Created}
 use Rattle.desk_model.specs.declared.answer.Dossier.{Dossier}
 use Rattle.desk_model.specs.declared.command.Command.{Command}
 use Rattle.desk_model.specs.declared.refusal.Refusal.{Refusal}
+use Rattle.desk_model.specs.declared.refusal.Refusal.TheVariants.{Unavailable}
 use Rattle.find_core.specs.declared.loads.QueueLoad.{QueueLoad}
 use Rattle.find_core.specs.declared.search.Findings.{Findings}
 use Rattle.find_core.specs.declared.search.Search.{Search}
@@ -19,6 +21,7 @@ use Rattle.find_form.specs.HomeSearches.{asked_by, owned_by, unowned}
 use Rattle.find_form.specs.Shown.{place_of}
 use Rattle.find_form.specs.declared.shown.Start.{Start}
 use Rattle.service_core.specs.Dossiers.{DossierOn}
+use Rattle.service_core.specs.Filed.{FiledOn}
 use Rattle.service_core.specs.Finding.{FindsOn}
 use Rattle.service_core.specs.Leaves.{LeavesDesk}
 use Rattle.service_core.specs.Loading.{LoadsOn}
@@ -36,7 +39,7 @@ use Rattle.wire_core.proofs.Stepping.{leads_nowhere, leads_wider, stays}
 use Rattle.page_routes.specs.declared.next.SubmittedForm.{SubmittedForm}
 use Rattle.page_wire.specs.Forms.{FormStepsOn, IsTold, SecondStepsOn, StepsOnceOn, StepsUnless}
 use Rattle.page_wire.specs.Forms.{StepsUnrefusedOn, UnlessTold, refused_before}
-use Rattle.page_wire.specs.Next.{follow_up_command}
+use Rattle.page_wire.specs.Next.{follow_up_command, next_text}
 use Rattle.page_wire.specs.Overtaken.{told_before}
 use Rattle.page_wire.specs.Replies.{done_reply, home_reply, refused_reply, request_reply}
 use Rattle.page_wire.specs.Twice.{told_request}
@@ -207,13 +210,39 @@ form_begun s at caller command sent (Ok x) bytes old new is steps =
     caller command sent before desk bytes after) is step) steps
 form_begun s at caller command sent (Err e) bytes old new is steps = tt
 
--- it sends no text to a request
-pub sends_no_text : {X E : Type 0} (s : Settings) (at : ℕ) (caller : List ℕ) (command : Command)
-    (sent : SubmittedForm) (r : Result X E) (bytes : List ℕ) (old new : State)
-    → None ≡ told_request sent → OnOk r (StepsUnrefusedOn s at caller command sent bytes old new)
-    → OnOk r (StepsOnceOn s at caller command sent (told_request sent) bytes old new)
-sends_no_text s at caller command sent r bytes old new is steps =
-    subst (λ (id : Option ℕ). OnOk r (StepsOnceOn s at caller command sent id bytes old new)) is steps
+-- what it files was filed already
+pub filed_already : (s : Settings) (at : ℕ) (caller : List ℕ) (command : Command) (sent : SubmittedForm)
+    (id : ℕ) (bytes : List ℕ) (old new : State)
+    → FiledOn s at caller command (next_text sent) (Ok (Some id)) old new
+    → bytes ≡ done_reply sent (Created id) → StepsOnceOn s at caller command sent None bytes old new
+filed_already s at caller command sent id bytes old new tells told =
+    λ desk is stand clean. let found = tells desk is stand clean in
+    (desk, ((Ok (Some id), found.0, (told, refl)), is), found.1)
+
+-- the desk can't look whether it was
+pub not_looked : {X E : Type 0} (s : Settings) (at : ℕ) (caller : List ℕ) (command : Command)
+    (sent : SubmittedForm) (refusal : Refusal) (r : Result X E) (bytes : List ℕ) (old new : State)
+    → FiledOn s at caller command (next_text sent) (Err refusal) old new → refusal ≡ Unavailable
+    → OnOk r (bytes ≡ refused_reply caller at sent refusal)
+    → OnOk r (StepsOnceOn s at caller command sent None bytes old new)
+not_looked s at caller command sent refusal (Ok x) bytes old new tells fault told =
+    λ desk is stand clean. let found = tells desk is stand clean in
+    (desk, ((Err refusal, fault, (told, refl)), is), found.1)
+not_looked s at caller command sent refusal (Err e) bytes old new tells fault told = tt
+
+-- it wasn't
+pub not_filed : {X E : Type 0} (s t : Settings) (at : ℕ) (caller : List ℕ) (command : Command)
+    (sent : SubmittedForm) (r : Result X E) (bytes : List ℕ) (old mid new : State) → t ≡ s
+    → WasClean mid new → FiledOn s at caller command (next_text sent) (Ok None) old mid
+    → OnOk r (StepsUnrefusedOn t at caller command sent bytes mid new)
+    → OnOk r (StepsOnceOn s at caller command sent None bytes old new)
+not_filed s t at caller command sent (Ok x) bytes old mid new same honest tells steps =
+    λ desk is stand clean. let found = tells desk is stand (honest clean) in
+    let step =
+    subst (λ (u : Settings). StepsUnrefusedOn u at caller command sent bytes mid new) same steps desk is
+    found.1 clean in
+    (step.0, ((Ok None, found.0, step.1.0), step.1.1), step.2)
+not_filed s t at caller command sent (Err e) bytes old mid new same honest tells steps = tt
 
 -- its text is held back
 pub told_instead : (s : Settings) (at : ℕ) (caller : List ℕ) (command : Command) (sent : SubmittedForm)

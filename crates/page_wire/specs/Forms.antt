@@ -17,7 +17,7 @@ use Rattle.service_core.specs.TableSteps.{IsStep, OverTables, ask_by}
 use Rattle.page_wire.specs.Next.{follow_up_command}
 use Rattle.page_wire.specs.Overtaken.{told_before}
 use Rattle.page_wire.specs.Replies.{done_reply, half_reply, refused_reply}
-use Rattle.page_wire.specs.Twice.{told_request}
+use Rattle.page_wire.specs.Twice.{IsFiled, told_if_filed, told_request}
 
 -- The second command was refused: the reply says what was done and what wasn't. Out of memory it
 -- leads on as after the first, since something was done.
@@ -67,11 +67,13 @@ UnlessTold settings at caller command sent (Some reply) old bytes new = (bytes �
 UnlessTold settings at caller command sent None old bytes new =
     StepsUnrefused settings at caller command sent old bytes new
 
--- of a text that is sent to a request, its dossier tells whether it is sent
+-- of a text that is sent to a request, its dossier tells whether it is sent; and what was filed already
+-- isn't filed again
 abbrev pub StepsOnce : Settings → ℕ → List ℕ → Command → SubmittedForm → Option ℕ → Desk → List ℕ → Desk
     → Type 0
 StepsOnce settings at caller command sent None old bytes new =
-    StepsUnrefused settings at caller command sent old bytes new
+    (found : Result (Option ℕ) Refusal) × IsFiled settings at caller command sent old found
+    × UnlessTold settings at caller command sent (told_if_filed caller at sent found) old bytes new
 StepsOnce settings at caller command sent (Some id) old bytes new =
     (result : Result Dossier Refusal) × IsDossier settings at caller id old result
     × UnlessTold settings at caller command sent (told_before caller at sent result) old bytes new

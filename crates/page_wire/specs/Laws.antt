@@ -1,7 +1,8 @@
 -- What holds of all pages: whatever is looked at stays, another site changes nothing and learns nothing,
--- and no page depends on what its caller may not see, nor does what is told of a text that isn't sent.
+-- no page depends on what its caller may not see, nor does what is told of a text that isn't sent, and
+-- no reply has a token.
 use Rattle.std.specs.Prelude.{◌≡◌, ◌≢◌, ℕ, Bool, false, if◌then◌else◌, List, []}
-use Rattle.std.specs.Prelude.{Option, Some, None, Result, Err}
+use Rattle.std.specs.Prelude.{Option, Some, None, Result, Ok, Err}
 use Rattle.httparse.specs.Grammar.{RequestHead}
 use Rattle.settings_core.specs.declared.settings.Settings.{Settings}
 use Rattle.desk_model.specs.Desk.{Desk}
@@ -15,18 +16,19 @@ use Rattle.message_core.specs.Head.{StartsWith}
 use Rattle.message_core.specs.Request.{values_in}
 use Rattle.message_core.specs.declared.request.Request.{Request}
 use Rattle.page_routes.specs.Places.{method_named, place_at, takes_post}
-use Rattle.page_routes.specs.Visits.{is_own}
+use Rattle.page_routes.specs.Visits.{is_own, visit_of}
 use Rattle.page_routes.specs.declared.fault.PageFault.{PageFault}
 use Rattle.page_routes.specs.declared.fault.PageFault.TheVariants.{NoRoute, BadMethod, OtherSite}
 use Rattle.page_routes.specs.declared.next.SubmittedForm.{SubmittedForm}
 use Rattle.page_routes.specs.declared.page.Page as routes
 use Rattle.page_routes.specs.declared.place.Place.{Place}
+use Rattle.route_core.specs.Commands.{asked_of}
 use Rattle.service_core.specs.Dossiers.{IsDossier}
 use Rattle.wire_core.specs.Replies.{is_head}
 use Rattle.page_wire.specs.Faults.{fault_reply}
 use Rattle.page_wire.specs.Overtaken.{told_before}
 use Rattle.page_wire.specs.Replies.{refused}
-use Rattle.page_wire.specs.Steps.{LookSteps, RequestPageSteps, Tells}
+use Rattle.page_wire.specs.Steps.{LookSteps, MessageReadSteps, RequestPageSteps, Tells}
 
 -- whatever GET and HEAD ask of the pages, the desk stays
 abbrev pub LooksLeave : Type 0
@@ -75,3 +77,24 @@ TextsAlike = (settings : Settings) (at : ℕ) (caller : List ℕ) (id : ℕ) (se
     → IsDossier settings at caller id one result → IsDossier settings at caller id other results
     → result ≢ Err Unavailable → results ≢ Err Unavailable
     → told_before caller at sent result ≡ told_before caller at sent results
+
+-- the settings with the tokens of other ones
+abbrev pub with_tokens_of : Settings → Settings → Settings
+with_tokens_of other settings = record settings { tokens = other.tokens }
+
+-- by both settings the message asks for the same: of the pages by the same person, and where somebody
+-- signs in with the same cookie, and of the interface by the same person too
+pub record AsksAlike (https : Bool) (settings other : Settings) (at : ℕ) (request : Request) : Type 0 where
+  pub page : (head : RequestHead) → StartsWith request.head head []
+      → visit_of https settings at request.message (values_in head)
+      ≡ visit_of https other at request.message (values_in head)
+  pub command : asked_of settings request.message ≡ asked_of other request.message
+
+-- No reply depends on a token but by who asks, and by the cookie of who signs in: with other tokens, by
+-- which the message asks for the same, its reply has the same bytes, and its step is the same.
+abbrev pub TokensChangeNothing : Type 0
+TokensChangeNothing = (https : Bool) (settings other : Settings) (at : ℕ) (request : Request)
+    (old new : Desk) (bytes : List ℕ)
+    → AsksAlike https settings (with_tokens_of other settings) at request
+    → MessageReadSteps https settings at (Ok request) old bytes new
+    → MessageReadSteps https (with_tokens_of other settings) at (Ok request) old bytes new

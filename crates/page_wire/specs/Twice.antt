@@ -1,13 +1,23 @@
--- A text that is sent twice: by a second press, or by Back and another press.
-use Rattle.std.specs.Prelude.{ℕ, ◌-◌, Bool, true, false, ◌&&◌, nat_le, List, Option, Some, None}
+-- What is sent twice: by a second press, or by Back and another press.
+use Rattle.std.specs.Prelude.{◌≡◌, ℕ, ◌-◌, Bool, true, false, ◌&&◌, nat_le, List, Option, Some, None}
+use Rattle.std.specs.Prelude.{Result, Ok, Err}
 use Rattle.std.specs.List.{list_any}
 use Rattle.std.specs.Str.{bytes_eq}
+use Rattle.settings_core.specs.declared.settings.Settings.{Settings}
+use Rattle.desk_model.specs.Desk.{Desk}
+use Rattle.desk_model.specs.declared.answer.Answer.TheVariants as answer
 use Rattle.desk_model.specs.declared.answer.Dossier.{Dossier}
+use Rattle.desk_model.specs.declared.command.Command.{Command}
+use Rattle.desk_model.specs.declared.refusal.Refusal.{Refusal}
+use Rattle.desk_model.specs.declared.refusal.Refusal.TheVariants.{Unavailable}
 use Rattle.desk_model.specs.declared.rows.Entry.{Entry}
 use Rattle.desk_model.specs.declared.rows.EntryKind.{EntryKind}
 use Rattle.desk_model.specs.declared.rows.EntryKind.TheVariants as kind
 use Rattle.page_routes.specs.declared.next.SubmittedForm.{SubmittedForm}
 use Rattle.page_routes.specs.declared.next.SubmittedForm.TheVariants as sent
+use Rattle.service_core.specs.Filed.{filed_lately}
+use Rattle.page_wire.specs.Next.{next_text}
+use Rattle.page_wire.specs.Replies.{done_reply, refused_reply}
 
 -- the request to which a form sends a text
 abbrev pub told_request : SubmittedForm → Option ℕ
@@ -39,3 +49,18 @@ has_moved _ dossier = true
 abbrev pub is_told : List ℕ → ℕ → SubmittedForm → Dossier → Bool
 is_told caller at sent dossier =
     has_moved sent dossier && list_any (is_of caller at sent) dossier.entries
+
+-- ---- a request that is filed twice
+
+-- the request that the form has filed already, if there is one, or the desk can't look
+abbrev pub IsFiled : Settings → ℕ → List ℕ → Command → SubmittedForm → Desk → Result (Option ℕ) Refusal
+    → Type 0
+IsFiled settings at caller command sent desk (Ok found) =
+    found ≡ filed_lately settings at caller command (next_text sent) desk
+IsFiled settings at caller command sent desk (Err refusal) = refusal ≡ Unavailable
+
+-- what is told in place of filing it again
+abbrev pub told_if_filed : List ℕ → ℕ → SubmittedForm → Result (Option ℕ) Refusal → Option (List ℕ)
+told_if_filed caller at sent (Ok None) = None
+told_if_filed caller at sent (Ok (Some id)) = Some (done_reply sent (answer.Created id))
+told_if_filed caller at sent (Err refusal) = Some (refused_reply caller at sent refusal)

@@ -1,5 +1,6 @@
 //! What holds of all pages: the contracts of functions that do nothing.
 ghost use Rattle.page_wire.specs.Laws.{LooksLeave, OtherSitesLeave, PagesAlike, TextsAlike};
+ghost use Rattle.page_wire.specs.Laws.{TokensChangeNothing};
 
 /// Whatever GET and HEAD ask of the pages, the desk stays.
 pub fn look_law()
@@ -22,4 +23,10 @@ pub fn page_alike_law()
 /// is the same.
 pub fn text_alike_law()
     ensures { TextsAlike }
+{}
+
+/// No reply has a token: with other tokens in the settings, by which a message asks for the same, its
+/// reply has the same bytes, and its step is the same.
+pub fn token_law()
+    ensures { TokensChangeNothing }
 {}

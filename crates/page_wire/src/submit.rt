@@ -15,6 +15,7 @@ ghost use Rattle.wire_core.specs.Steps.{StaysOn};
 use crate::follow_up::run_follow_up;
 use crate::next::{follow_up_command, next_text};
 use crate::overtaken::told_before;
+use crate::redirect::put_done;
 use crate::twice::told_request;
 use crate::unsent::refused_reply;
 use desk_core::{Answer, Command, Refusal, refusal_without_facts};
@@ -28,8 +29,8 @@ use text_core::Text;
 
 /// Does what a form asks for, its second command only where the first isn't refused, and puts its
 /// reply into the room. What the second would be refused for on every desk is refused before the
-/// first, what was sent already isn't sent again, and a reply that somebody overtook isn't sent yet. Out
-/// of memory nothing is done, and nothing is put.
+/// first, what was sent or filed already isn't done again, and a reply that somebody overtook isn't sent
+/// yet. Out of memory nothing is done, and nothing is put.
 #[tactic(auto, using(service_core::proofs::LeftLemmas::left_same))]
 pub(crate) fn submit_form<S: Backend>(
     alloc: Global,
@@ -88,7 +89,7 @@ fn refusal_of(
 }
 
 /// Does what a form asks for whose second command isn't refused beforehand, unless it sends a text
-/// that is held back.
+/// that is held back, or files what was filed already.
 #[tactic(auto, using(service_core::proofs::LeftLemmas::left_same))]
 fn submit_once<S: Backend>(
     alloc: Global,
@@ -110,7 +111,65 @@ fn submit_once<S: Backend>(
 {
     match told_request(sent) {
         Some(id) => submit_unless_told(alloc, caller, command, sent, id, moment, desk, room),
-        None => submit_both(alloc, caller, command, sent, moment, desk, room),
+        None => submit_unless_filed(alloc, caller, command, sent, moment, desk, room),
+    }
+}
+
+/// The same with a form that sends no text to a request that is there: where the request that it files
+/// was filed already, it leads there, and nothing is done.
+#[tactic(auto, using(service_core::proofs::LeftLemmas::left_same))]
+fn submit_unless_filed<S: Backend>(
+    alloc: Global,
+    caller: &str,
+    command: &Command,
+    sent: &SubmittedForm,
+    moment: Minute,
+    desk: &mut Desk<S>,
+    room: &mut Vec<u8>,
+) -> Result<(), AllocError>
+    requires empty { room.old.items ≡ [] }
+    requires room { 512 ≤ vec_capacity room.old }
+    ensures ok { OnOk result (StepsOnceOn (settings_of S.Store desk.old) moment caller.now
+        command.now sent.now None room.new.items (tables_of S.Store desk.old)
+        (tables_of S.Store desk.new)) }
+    ensures err { OnErr result ((room.new ≡ room.old) × StaysOn (settings_of S.Store desk.old)
+        (tables_of S.Store desk.old) (tables_of S.Store desk.new)) }
+    ensures left { LeavesDesk S.Store desk.old desk.new }
+{
+    match next_text(alloc, sent) {
+        Ok(text) => submit_new(alloc, caller, command, sent, text, moment, desk, room),
+        Err(_) => Err(AllocError),
+    }
+}
+
+/// The same, with a copy of what the second command takes.
+fn submit_new<S: Backend>(
+    alloc: Global,
+    caller: &str,
+    command: &Command,
+    sent: &SubmittedForm,
+    text: Option<Text>,
+    moment: Minute,
+    desk: &mut Desk<S>,
+    room: &mut Vec<u8>,
+) -> Result<(), AllocError>
+    requires text { text ≡ text_after sent.now }
+    requires empty { room.old.items ≡ [] }
+    requires room { 512 ≤ vec_capacity room.old }
+    ensures ok { OnOk result (StepsOnceOn (settings_of S.Store desk.old) moment caller.now
+        command.now sent.now None room.new.items (tables_of S.Store desk.old)
+        (tables_of S.Store desk.new)) }
+    ensures err { OnErr result ((room.new ≡ room.old) × StaysOn (settings_of S.Store desk.old)
+        (tables_of S.Store desk.old) (tables_of S.Store desk.new)) }
+    ensures left { LeavesDesk S.Store desk.old desk.new }
+{
+    match desk.filed_lately(alloc, moment.get(), caller, command, &text) {
+        Ok(None) => submit(alloc, caller, command, sent, text, moment, desk, room),
+        Ok(Some(id)) => {
+            put_done(sent, &Answer::Created(id), room);
+            Ok(())
+        }
+        Err(refusal) => put_refused(alloc, caller, moment, sent, refusal, room),
     }
 }
 

@@ -1,19 +1,25 @@
--- Examples of the definitions: the ends of links by their kind, which entries are told, and which
--- statuses the settings know.
-use Rattle.std.specs.Prelude.{◌≡◌, refl, true, false, ℕ, List, [], ◌∷◌, None, codes}
+-- Examples of the definitions: the ends of links by their kind, which entries are told, which statuses
+-- the settings know, and which request was filed already.
+use Rattle.std.specs.Prelude.{◌≡◌, refl, true, false, ℕ, List, [], ◌∷◌, ◌++◌, Some, None, codes}
 use Rattle.settings_core.specs.Settings.{lifecycle_named}
 use Rattle.settings_core.specs.declared.settings.Settings.{Settings}
 use Rattle.desk_model.specs.Known.{knows_status}
 use Rattle.desk_model.specs.Lifecycles.{has_status}
+use Rattle.desk_model.specs.Rights.{may_show}
+use Rattle.desk_model.specs.declared.command.Command.{Command}
+use Rattle.desk_model.specs.declared.command.Command.TheVariants.{Create, Take}
+use Rattle.desk_model.specs.declared.facts.SeenRequest.{SeenRequest}
 use Rattle.desk_model.specs.declared.rows.Entry.{Entry}
 use Rattle.desk_model.specs.declared.rows.EntryKind.{EntryKind}
 use Rattle.desk_model.specs.declared.rows.EntryKind.TheVariants.{Comment, Reply, Status}
+use Rattle.desk_model.specs.declared.rows.EntryKind.TheVariants as kind
 use Rattle.desk_model.specs.declared.rows.LinkKind.TheVariants.{DependsOn, MemberOf, RefersTo}
 use Rattle.desk_model.specs.declared.rows.LinkRow.{LinkRow}
 use Rattle.desk_model.specs.declared.rows.QueueRow.{QueueRow}
 use Rattle.desk_model.specs.declared.rows.RequestRow.{RequestRow}
 use Rattle.desk_model.specs.declared.rows.Turn.TheVariants.{Desk}
 use Rattle.service_core.specs.Attaching.{of_queues}
+use Rattle.service_core.specs.Filed.{are_requestors, is_as, is_filed_with, is_filer, is_row, numbers_down}
 use Rattle.service_core.specs.Shown.{is_told, numbers_at}
 use Rattle.service_core.specs.declared.links.End.TheVariants.{Source, Target}
 
@@ -103,3 +109,102 @@ status_of_another_lifecycle settings e = rw e refl
 status_in_no_queue :
     (settings : Settings) → knows_status settings (of_queues queues) (new_in (codes "night")) ≡ false
 status_in_no_queue settings = refl
+
+-- ---- a request that is filed twice
+
+nobody_given_is_the_caller :
+    (are_requestors (codes "ann") [] (codes "ann" ∷ []) ≡ true)
+    × (are_requestors (codes "ann") [] (codes "bob" ∷ []) ≡ false)
+    × (are_requestors (codes "ann") [] (codes "ann" ∷ codes "bob" ∷ []) ≡ false)
+nobody_given_is_the_caller = (refl, refl, refl)
+
+the_same_persons_in_any_order :
+    are_requestors (codes "ann") (codes "dan" ∷ codes "bob" ∷ codes "dan" ∷ [])
+    (codes "bob" ∷ codes "dan" ∷ []) ≡ true
+the_same_persons_in_any_order = refl
+
+one_person_more_or_less :
+    (are_requestors (codes "ann") (codes "bob" ∷ []) (codes "bob" ∷ codes "dan" ∷ []) ≡ false)
+    × (are_requestors (codes "ann") (codes "bob" ∷ codes "dan" ∷ []) (codes "bob" ∷ []) ≡ false)
+one_person_more_or_less = (refl, refl)
+
+-- request 7, about ink, which ann filed in this queue at 1000 for herself
+abbrev about_ink : SeenRequest
+about_ink =
+    record {
+      row = record (new_in (codes "general")) { created = 1000 };
+      requestors = codes "ann" ∷ [];
+      cc = [];
+      admin_cc = [];
+      entry_count = 1;
+    }
+
+-- to file a request in this queue with this subject
+abbrev file : List ℕ → List ℕ → Command
+file queue subject = Create queue subject None []
+
+ten_minutes_later : is_as 1010 (codes "ann") (file (codes "general") (codes "Ink")) about_ink ≡ true
+ten_minutes_later = refl
+
+eleven_minutes_later : is_as 1011 (codes "ann") (file (codes "general") (codes "Ink")) about_ink ≡ false
+eleven_minutes_later = refl
+
+-- a clock that was put back
+before_it_was_filed : is_as 999 (codes "ann") (file (codes "general") (codes "Ink")) about_ink ≡ true
+before_it_was_filed = refl
+
+in_another_queue : is_as 1000 (codes "ann") (file (codes "sales") (codes "Ink")) about_ink ≡ false
+in_another_queue = refl
+
+with_another_subject : is_as 1000 (codes "ann") (file (codes "general") (codes "ink")) about_ink ≡ false
+with_another_subject = refl
+
+-- for bob, and not for ann
+for_somebody_else : is_as 1000 (codes "bob") (file (codes "general") (codes "Ink")) about_ink ≡ false
+for_somebody_else = refl
+
+other_command_files_none : is_as 1000 (codes "ann") (Take 7) about_ink ≡ false
+other_command_files_none = refl
+
+one_who_may_not_show_it :
+    (settings : Settings) → may_show settings (codes "ann") about_ink ≡ false
+    → is_row settings 1000 (codes "ann") (file (codes "general") (codes "Ink")) about_ink ≡ false
+one_who_may_not_show_it settings e = rw e refl
+
+-- ann filed it, and bob replied
+abbrev filed_by_ann : List Entry
+filed_by_ann = entry kind.Create ∷ record (entry Reply) { number = 2; actor = codes "bob" } ∷ []
+
+filed_by_another : is_filed_with (codes "bob") None filed_by_ann ≡ false
+filed_by_another = refl
+
+filed_without_a_text : is_filed_with (codes "ann") None filed_by_ann ≡ true
+filed_without_a_text = refl
+
+text_of_another : is_filed_with (codes "ann") (Some (codes "jam")) filed_by_ann ≡ false
+text_of_another = refl
+
+text_that_was_sent : is_filed_with (codes "ann") (Some (codes "jam")) (filed_by_ann ++ entry Reply ∷ []) ≡ true
+text_that_was_sent = refl
+
+another_text : is_filed_with (codes "ann") (Some (codes "ham")) (filed_by_ann ++ entry Reply ∷ []) ≡ false
+another_text = refl
+
+comment_is_no_text_of_it :
+    is_filed_with (codes "ann") (Some (codes "jam")) (filed_by_ann ++ entry Comment ∷ []) ≡ false
+comment_is_no_text_of_it = refl
+
+request_without_entries : is_filer (codes "ann") [] ≡ false
+request_without_entries = refl
+
+newest_first : numbers_down 3 2 ≡ 3 ∷ 2 ∷ []
+newest_first = refl
+
+fewer_than_so_many : numbers_down 2 100 ≡ 2 ∷ 1 ∷ []
+fewer_than_so_many = refl
+
+none_are_there : numbers_down 0 100 ≡ []
+none_are_there = refl
+
+none_are_asked_for : numbers_down 3 0 ≡ []
+none_are_asked_for = refl

@@ -18,5 +18,6 @@ pub mod ToldLemmas
 pub mod Telling
 pub mod SightLemmas
 pub mod FoundAlike
+pub mod FiledLemmas
 pub mod FindLemmas
 pub mod LoadsAlike

@@ -4,6 +4,7 @@ pub mod Attaching
 pub mod Decided
 pub mod Dossiers
 pub mod Fault
+pub mod Filed
 pub mod Finding
 pub mod Leaves
 pub mod Loading

@@ -32,6 +32,7 @@ mod dossier;
 pub mod dues;
 mod execute;
 pub mod fault;
+mod filed;
 mod find;
 mod known;
 mod links;

@@ -3,7 +3,6 @@ use Rattle.std.proofs.Common.{◌∙◌, Option, subst, sym}
 use Rattle.std.specs.Prelude.{ℕ, OnOk}
 use Rattle.service_core.specs.Seen.{settings_of, tables_of}
 use Rattle.page_wire.specs.Forms.{StepsOnceOn}
-use Rattle.page_wire.proofs.Steps.{sends_no_text}
 use Rattle.page_wire.proofs.submit.submit_once.Goals as goal
 
 pub returns-in-Some-clause-ok : goal.returns-in-Some-clause-ok
@@ -16,7 +15,8 @@ returns-in-Some-clause-ok g c =
 
 pub returns-in-None-clause-ok : goal.returns-in-None-clause-ok
 returns-in-None-clause-ok g c =
-    sends_no_text (settings_of g.S.Store c.args.desk.now) c.args.moment c.args.caller.now
-    c.args.command.now c.args.sent.now c.submit_both.result c.submit_both.new.room.items
-    (tables_of g.S.Store c.args.desk.now) (tables_of g.S.Store c.submit_both.new.desk)
-    (sym c.in-None.is ∙ c.told_request.ensures) c.submit_both.ensures.ok
+    subst (λ (id : Option ℕ). OnOk c.submit_unless_filed.result (StepsOnceOn
+    (settings_of g.S.Store c.args.desk.now) c.args.moment c.args.caller.now c.args.command.now
+    c.args.sent.now id c.submit_unless_filed.new.room.items (tables_of g.S.Store c.args.desk.now)
+    (tables_of g.S.Store c.submit_unless_filed.new.desk)))
+    (sym c.in-None.is ∙ c.told_request.ensures) c.submit_unless_filed.ensures.ok

@@ -1,0 +1,13 @@
+-- what is looked at stays
+use Rattle.store_core.specs.Due.{due_of_row}
+use Rattle.store_tables.proofs.Spared.{stands}
+use Rattle.store_tables.specs.Contents.{contents_of}
+use Rattle.service_core.specs.Seen.{settings_of}
+use Rattle.service_core.proofs.desk.Desk.filed_lately.Goals as goal
+
+pub returns-clause-filed : goal.returns-clause-filed
+returns-clause-filed g c desk is stand clean =
+    let due = due_of_row (settings_of g.S.Store c.args.self.now) desk in (
+      c.among_newest.ensures.filed desk is (due, stand) clean,
+      stands c.among_newest.ensures.kept (contents_of due desk) stand,
+    )
