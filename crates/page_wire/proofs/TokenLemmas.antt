@@ -1,16 +1,23 @@
 -- What a message asks for, once it is known who asks, has nothing of the tokens.
 use Rattle.std.proofs.Common.{◌≡◌, ◌⊎◌, ℕ, Bool, true, false, List, Option, Some, None, Result, Ok, Err}
-use Rattle.std.proofs.Common.{inl, inr, refl, subst}
+use Rattle.std.proofs.Common.{◌∙◌, inl, inr, refl, subst, sym}
+use Rattle.std.specs.Option.{option_and_then}
 use Rattle.httparse.specs.Grammar.{RequestHead}
 use Rattle.hours_core.specs.Moment.{is_due_moment}
 use Rattle.settings_core.specs.declared.settings.Settings.{Settings}
 use Rattle.desk_core.specs.Lawful.{IsLawful}
 use Rattle.desk_core.specs.Laws.{Step}
 use Rattle.desk_model.specs.Desk.{Desk}
-use Rattle.desk_model.specs.Step.{Ask, Outcome}
+use Rattle.desk_model.specs.Known.{is_known}
+use Rattle.desk_model.specs.Step.{Ask, Outcome, Steps, desk_after, outcome_of, refusal_beforehand}
+use Rattle.desk_model.specs.View.{view}
 use Rattle.desk_model.specs.declared.answer.Answer.{Answer}
+use Rattle.desk_model.specs.declared.answer.Answer.TheVariants.{Created}
 use Rattle.desk_model.specs.declared.answer.Dossier.{Dossier}
 use Rattle.desk_model.specs.declared.command.Command.{Command}
+use Rattle.desk_model.specs.declared.command.Command.TheVariants as command
+use Rattle.desk_pages.specs.Change.{change, panel}
+use Rattle.desk_pages.specs.Facts.{own_facts}
 use Rattle.desk_model.specs.declared.refusal.Refusal.{Refusal}
 use Rattle.find_form.specs.Form.{form_of}
 use Rattle.find_form.specs.SearchFields.{search_of}
@@ -56,6 +63,75 @@ module _ (s donor : Settings) where
   abbrev other : Settings
   other = with_tokens_of donor s
 
+  same_outcome : (at : ℕ) (caller : List ℕ) (asked : Command) (desk : Desk)
+      → outcome_of s at caller asked desk ≡ outcome_of other at caller asked desk
+  same_outcome at caller (command.OpenQueue queue lifecycle level) desk = refl
+  same_outcome at caller (command.Create queue subject status requestors) desk = refl
+  same_outcome at caller (command.SetStatus id status) desk = refl
+  same_outcome at caller (command.Take id) desk = refl
+  same_outcome at caller (command.Steal id) desk = refl
+  same_outcome at caller (command.Untake id) desk = refl
+  same_outcome at caller (command.Give id person) desk = refl
+  same_outcome at caller (command.Reply id text) desk = refl
+  same_outcome at caller (command.Comment id text) desk = refl
+  same_outcome at caller (command.Watch id role person) desk = refl
+  same_outcome at caller (command.Unwatch id role person) desk = refl
+  same_outcome at caller (command.Link id kind target) desk = refl
+  same_outcome at caller (command.Unlink id kind target) desk = refl
+  same_outcome at caller (command.SetLevel id level) desk = refl
+  same_outcome at caller command.Queues desk = refl
+  same_outcome at caller (command.Show id) desk = refl
+  same_outcome at caller (command.List queue) desk = refl
+  same_outcome at caller (command.History id) desk = refl
+  same_outcome at caller command.Overdue desk = refl
+  same_outcome at caller command.Workload desk = refl
+
+  same_after : (at : ℕ) (caller : List ℕ) (asked : Command) (desk : Desk)
+      → desk_after s at caller asked desk ≡ desk_after other at caller asked desk
+  same_after at caller (command.OpenQueue queue lifecycle level) desk = refl
+  same_after at caller (command.Create queue subject status requestors) desk = refl
+  same_after at caller (command.SetStatus id status) desk = refl
+  same_after at caller (command.Take id) desk = refl
+  same_after at caller (command.Steal id) desk = refl
+  same_after at caller (command.Untake id) desk = refl
+  same_after at caller (command.Give id person) desk = refl
+  same_after at caller (command.Reply id text) desk = refl
+  same_after at caller (command.Comment id text) desk = refl
+  same_after at caller (command.Watch id role person) desk = refl
+  same_after at caller (command.Unwatch id role person) desk = refl
+  same_after at caller (command.Link id kind target) desk = refl
+  same_after at caller (command.Unlink id kind target) desk = refl
+  same_after at caller (command.SetLevel id level) desk = refl
+  same_after at caller command.Queues desk = refl
+  same_after at caller (command.Show id) desk = refl
+  same_after at caller (command.List queue) desk = refl
+  same_after at caller (command.History id) desk = refl
+  same_after at caller command.Overdue desk = refl
+  same_after at caller command.Workload desk = refl
+
+  same_beforehand : (at : ℕ) (caller : List ℕ) (asked : Command)
+      → refusal_beforehand s at caller asked ≡ refusal_beforehand other at caller asked
+  same_beforehand at caller (command.OpenQueue queue lifecycle level) = refl
+  same_beforehand at caller (command.Create queue subject status requestors) = refl
+  same_beforehand at caller (command.SetStatus id status) = refl
+  same_beforehand at caller (command.Take id) = refl
+  same_beforehand at caller (command.Steal id) = refl
+  same_beforehand at caller (command.Untake id) = refl
+  same_beforehand at caller (command.Give id person) = refl
+  same_beforehand at caller (command.Reply id text) = refl
+  same_beforehand at caller (command.Comment id text) = refl
+  same_beforehand at caller (command.Watch id role person) = refl
+  same_beforehand at caller (command.Unwatch id role person) = refl
+  same_beforehand at caller (command.Link id kind target) = refl
+  same_beforehand at caller (command.Unlink id kind target) = refl
+  same_beforehand at caller (command.SetLevel id level) = refl
+  same_beforehand at caller command.Queues = refl
+  same_beforehand at caller (command.Show id) = refl
+  same_beforehand at caller (command.List queue) = refl
+  same_beforehand at caller (command.History id) = refl
+  same_beforehand at caller command.Overdue = refl
+  same_beforehand at caller command.Workload = refl
+
   lawful : (ask : Ask) (old : Desk) (outcome : Outcome) (new : Desk)
       → IsLawful (record {
         settings = s;
@@ -75,6 +151,7 @@ module _ (s donor : Settings) where
         old = old;
         new = new;
       })
+  unfolding is_known
   lawful ask old outcome new laws = record {
     status = laws.status;
     depends = laws.depends;
@@ -95,16 +172,35 @@ module _ (s donor : Settings) where
     reading = laws.reading;
     due = laws.due;
     order = laws.order;
-    hidden = laws.hidden;
-    inside = laws.inside;
+    hidden =
+        λ available id names hides.
+        let it = laws.hidden available id names hides in (
+          it.0,
+          it.1,
+          it.2,
+          λ gone none. sym (same_outcome ask.at ask.caller ask.command gone) ∙ it.3 gone none,
+        );
+    inside =
+        λ available reads.
+        laws.inside available reads ∙ same_outcome ask.at ask.caller ask.command (view s ask.caller old);
     outside = laws.outside;
     view = laws.view;
   }
 
+  steps_by : (ask : Ask) (old : Desk) (outcome : Outcome) (new : Desk)
+      → Steps s ask.at ask.caller ask.command old outcome new
+      → Steps other ask.at ask.caller ask.command old outcome new
+  steps_by ask old outcome new (inl out) = inl out
+  steps_by ask old outcome new (inr (told, left)) =
+      inr (
+        told ∙ same_outcome ask.at ask.caller ask.command old,
+        left ∙ same_after ask.at ask.caller ask.command old,
+      )
+
   step : (ask : Ask) (old : Desk) (outcome : Outcome) (new : Desk)
       → IsStep s ask old outcome new → IsStep other ask old outcome new
   step ask old outcome new steps =
-      record { step = steps.step; laws = lawful ask old outcome new steps.laws }
+      record { step = steps_by ask old outcome new steps.step; laws = lawful ask old outcome new steps.laws }
 
   dossier : (at : ℕ) (caller : List ℕ) (id : ℕ) (desk : Desk) (result : Result Dossier Refusal)
       → IsDossier s at caller id desk result → IsDossier other at caller id desk result
@@ -113,6 +209,12 @@ module _ (s donor : Settings) where
     history = step _ desk _ desk told.history;
     queue = told.queue;
   }
+
+  same_refusal : (at : ℕ) (caller : List ℕ) (next : Option Command)
+      → option_and_then (refusal_beforehand s at caller) next
+      ≡ option_and_then (refusal_beforehand other at caller) next
+  same_refusal at caller None = refl
+  same_refusal at caller (Some asked) = same_beforehand at caller asked
 
   -- ---- a page
 
@@ -136,6 +238,7 @@ module _ (s donor : Settings) where
 
     look : (of : routes.Page) → LookSteps s at caller of old bytes new
         → LookSteps other at caller of old bytes new
+    unfolding own_facts change panel
     look page.Home steps = steps
     look (page.Queue queue) steps = find (replies.queue_query queue) First steps
     look (page.Find query start) steps = find query start steps
@@ -193,7 +296,10 @@ module _ (s donor : Settings) where
 
     form : (old : Desk) → FormSteps s at caller command sent old bytes new
         → FormSteps other at caller command sent old bytes new
-    form old steps = unless_refused (refused_before s at caller sent) old steps
+    form old steps =
+        subst (λ (refusal : Option Refusal). StepsUnless other at caller command sent refusal old bytes new)
+        (same_refusal at caller (follow_up_command sent (Created 0)))
+        (unless_refused (refused_before s at caller sent) old steps)
 
   -- ---- a message
 

@@ -1,0 +1,34 @@
+-- it wasn't filed already
+use Rattle.std.proofs.Common.{◌≡◌, List, None, Ok, Option, subst}
+use Rattle.std.specs.Prelude.{ℕ}
+use Rattle.service_core.specs.Filed.{FiledOn}
+use Rattle.service_core.specs.Seen.{settings_of, tables_of}
+use Rattle.page_wire.proofs.Steps.{not_filed, stays_after}
+use Rattle.page_wire.proofs.submit.submit_new.Goals as goal
+
+pub returns-in-Ok-None-clause-ok : goal.returns-in-Ok-None-clause-ok
+returns-in-Ok-None-clause-ok g c =
+    let s = settings_of g.S.Store c.args.desk.now in
+    let caller = c.args.caller.now in
+    let command = c.args.command.now in
+    let old = tables_of g.S.Store c.args.desk.now in
+    let mid = tables_of g.S.Store c.filed_lately.new.self in
+    let at_moment =
+    subst (λ (at : ℕ). FiledOn s at caller command c.args.text (Ok c.in-Ok-None.field-0) old mid)
+    c.get.ensures.number c.in-Ok-None.ensures.filed in
+    let none =
+    subst (λ (found : Option ℕ). FiledOn s c.args.moment caller command c.args.text (Ok found) old mid)
+    c.in-Ok-None.field-0-is at_moment in
+    not_filed s (settings_of g.S.Store c.filed_lately.new.self) c.args.moment caller command
+    c.args.sent.now c.submit.result c.submit.new.room.items old mid
+    (tables_of g.S.Store c.submit.new.desk) c.filed_lately.ensures.same c.submit.ensures.left.clean
+    (subst (λ (text : Option (List ℕ)). FiledOn s c.args.moment caller command text (Ok None) old mid)
+    c.requires.text none) c.submit.ensures.ok
+
+pub returns-in-Ok-None-clause-err : goal.returns-in-Ok-None-clause-err
+returns-in-Ok-None-clause-err g c =
+    stays_after (c.submit.new.room ≡ c.args.room.now) (settings_of g.S.Store c.args.desk.now)
+    (settings_of g.S.Store c.filed_lately.new.self) c.submit.result (tables_of g.S.Store c.args.desk.now)
+    (tables_of g.S.Store c.filed_lately.new.self) (tables_of g.S.Store c.submit.new.desk)
+    c.filed_lately.ensures.same c.submit.ensures.left.clean c.filed_lately.ensures.kept
+    c.submit.ensures.err
