@@ -1,10 +1,11 @@
--- Examples of the definitions: the ends of links by their kind, which entries are told, and which
--- statuses the settings know.
-use Rattle.std.specs.Prelude.{◌≡◌, refl, true, false, ℕ, List, [], ◌∷◌, None, codes}
+-- Examples of the definitions: the ends of links by their kind, which entries are told, which
+-- statuses the settings know, and parts of the first page.
+use Rattle.std.specs.Prelude.{◌≡◌, refl, true, false, ℕ, List, [], ◌∷◌, None, codes, Ok, Err}
 use Rattle.settings_core.specs.Settings.{lifecycle_named}
 use Rattle.settings_core.specs.declared.settings.Settings.{Settings}
 use Rattle.desk_model.specs.Known.{knows_status}
 use Rattle.desk_model.specs.Lifecycles.{has_status}
+use Rattle.desk_model.specs.declared.refusal.Refusal.TheVariants.{BadMoment}
 use Rattle.desk_model.specs.declared.rows.Entry.{Entry}
 use Rattle.desk_model.specs.declared.rows.EntryKind.{EntryKind}
 use Rattle.desk_model.specs.declared.rows.EntryKind.TheVariants.{Comment, Reply, Status}
@@ -13,7 +14,10 @@ use Rattle.desk_model.specs.declared.rows.LinkRow.{LinkRow}
 use Rattle.desk_model.specs.declared.rows.QueueRow.{QueueRow}
 use Rattle.desk_model.specs.declared.rows.RequestRow.{RequestRow}
 use Rattle.desk_model.specs.declared.rows.Turn.TheVariants.{Desk}
+use Rattle.find_core.specs.declared.home.Home.{Home}
+use Rattle.find_core.specs.declared.search.Findings.{Findings}
 use Rattle.service_core.specs.Attaching.{of_queues}
+use Rattle.service_core.specs.Homes.{part_of}
 use Rattle.service_core.specs.Shown.{is_told, numbers_at}
 use Rattle.service_core.specs.declared.links.End.TheVariants.{Source, Target}
 
@@ -103,3 +107,21 @@ status_of_another_lifecycle settings e = rw e refl
 status_in_no_queue :
     (settings : Settings) → knows_status settings (of_queues queues) (new_in (codes "night")) ≡ false
 status_in_no_queue settings = refl
+
+abbrev nothing_found : Findings
+nothing_found = record { rows = []; count = 0 }
+
+abbrev empty_home : Home
+empty_home =
+    record {
+      own = record nothing_found { count = 1 };
+      asked = nothing_found;
+      free = nothing_found;
+      loads = [];
+    }
+
+part_of_a_page : part_of (λ h. h.own) (Ok empty_home) ≡ Ok (record { rows = []; count = 1 })
+part_of_a_page = refl
+
+part_of_a_refusal : part_of (λ h. h.loads) (Err BadMoment) ≡ Err BadMoment
+part_of_a_refusal = refl

@@ -19,4 +19,5 @@ pub mod Telling
 pub mod SightLemmas
 pub mod FoundAlike
 pub mod FindLemmas
+mod HomeLemmas
 pub mod LoadsAlike

@@ -5,6 +5,7 @@ pub mod Decided
 pub mod Dossiers
 pub mod Fault
 pub mod Finding
+pub mod Homes
 pub mod Leaves
 pub mod Loading
 pub mod QueueVisibility
