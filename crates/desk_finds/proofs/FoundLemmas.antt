@@ -379,11 +379,14 @@ module _ (s : Settings) (at : ℕ) (caller : List ℕ) (desk : Desk) (is : IsDes
         (λ r due. ap (λ (o : Option ℕ). (r.row, o)) (sym due)) rs dues)
         ∙ sym (map-map (dated_by due_by_row) (λ (r : Request). r.row) rs)
 
-    kept_open : {P : Request → Type 0} → AllByRecursion P desk.requests
+    kept_open : (P : Request → Type 0) → AllByRecursion P desk.requests
         → AllByRecursion P open_requests
-    kept_open {P} all =
+    kept_open P all =
         all-filter P is_open shown_ones
         (all-filter P (λ r. may_show s caller (seen_request r)) desk.requests all)
+
+    dues_open : HaveDues s desk open_requests
+    dues_open = kept_open (λ r. due_by_row r.row ≡ due_on s desk r) (have_dues s desk is)
 
     -- the rows of open requests cover the search
     pub covered_open : (mine : List Watcher) (queues : List QueueRow) (rows : List Dated)
@@ -398,10 +401,14 @@ module _ (s : Settings) (at : ℕ) (caller : List ℕ) (desk : Desk) (is : IsDes
           (theirs_on desk search.requestor) qs) rows) are.watched are.queued
           ∙ ap (filter (is_left s at caller search (watches_on desk caller)
           (theirs_on desk search.requestor) desk.queues))
-          (are.asked ∙ rows_dated open_requests (kept_open (have_dues s desk is)))
+          (are.asked ∙ rows_dated open_requests dues_open)
           ∙ left_are s at caller search desk open_requests
-          (kept_open (shows_alike s caller desk is)) (kept_open (have_dues s desk is))
-          (kept_open (requestors_are s at caller search desk is search.requestor))
+          (kept_open (λ r. may_show_by s caller r.row (watches_on desk caller)
+          ≡ may_show s caller (seen_request r)) (shows_alike s caller desk is))
+          dues_open
+          (kept_open (λ r. is_requested search.requestor (theirs_on desk search.requestor) r.row.id
+          ≡ has_requestor search.requestor r.requestors)
+          (requestors_are s at caller search desk is search.requestor))
           ∙ ap (map (dated_on s desk)) open_left;
     }
 
@@ -697,7 +704,7 @@ module _ (s : Settings) (at : ℕ) (caller : List ℕ) (search : Search) (desk :
         → map Some found ≡ map (found_of s caller own queues rows desk) behind)
         → count ≡ length placed
         → as_findings found count ≡ findings s at caller search limit after desk
-    findings_are limit after own others queues rows placed behind found count covers others_are
+    findings_are limit after ours others queues rows placed behind found count covers others_are
         placed_is behind_is found_is count_is =
         let own_rise = subst WatchesRise (sym covers.watched) (watches_in_order caller desk is) in
         let others_rise =
