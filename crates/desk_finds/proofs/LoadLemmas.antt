@@ -21,12 +21,16 @@ use Rattle.sorted_lists.proofs.Rising.{filtered_rises, orders_go_on}
 use Rattle.report_core.specs.Rows.{QueuesRise, RowsRise, numbers_rise}
 use Rattle.report_core.proofs.LoadLemmas.{rise_from}
 use Rattle.find_core.specs.Conditions.{is_asked, is_due, is_in, meets}
-use Rattle.find_core.specs.Find.{Sight, found_among, sight_on, sights}
+use Rattle.find_core.specs.Find.{Sight, findings, found_among, sight_on, sights}
+use Rattle.find_core.specs.Home.{home}
 use Rattle.find_core.specs.Loads.{is_counted, load_among, load_of, open_in, queue_loads}
 use Rattle.find_core.specs.Rows.{Dated}
+use Rattle.find_core.specs.declared.home.Home.{Home}
+use Rattle.find_core.specs.declared.home.HomeSearches.{HomeSearches}
 use Rattle.find_core.specs.declared.loads.QueueLoad.{QueueLoad}
+use Rattle.find_core.specs.declared.search.Findings.{Findings}
 use Rattle.desk_finds.specs.Found.{asked_on, dated_on}
-use Rattle.desk_finds.proofs.FoundLemmas.{both_kept, map_same}
+use Rattle.desk_finds.proofs.FoundLemmas.{both_kept, map_same, rows_up}
 
 abbrev as_load : QueueRow → ℕ → ℕ → QueueLoad
 as_load queue all late = record { queue = queue; «open» = all; late = late }
@@ -89,18 +93,6 @@ module _ (s : Settings) (at : ℕ) (caller : List ℕ) (desk : Desk) where
       ap₂ (as_load queue)
       (counted false queue.name) (counted true queue.name)
 
-  numbered_rise : (n : ℕ) (rs : List Request) → are_numbered (n + 1) (map (λ r. r.row.id) rs) ≡ true
-      → numbers_rise n (map (dated_on s desk) rs) ≡ true
-  numbered_rise n [] numbered = refl
-  numbered_rise n (r ∷ rs) numbered =
-      let parts = and_parts (r.row.id == n + 1)
-      (are_numbered (n + 1 + 1) (map (λ x. x.row.id) rs)) numbered in
-      let rows : List Dated = map (dated_on s desk) rs in
-      let next : r.row.id ≡ n + 1 = eqb-true r.row.id (n + 1) parts.0 in
-      and_from (nat_lt n r.row.id) (numbers_rise r.row.id rows)
-      (lt-ltb n r.row.id (omega (arith, next)))
-      (ap (λ m. numbers_rise m rows) next ∙ numbered_rise (n + 1) rs parts.1)
-
   some_rise : (test : Request → Bool) (n : ℕ) (rs : List Request)
       → numbers_rise n (map (dated_on s desk) rs) ≡ true
       → numbers_rise n (map (dated_on s desk) (filter test rs)) ≡ true
@@ -117,11 +109,11 @@ module _ (s : Settings) (at : ℕ) (caller : List ℕ) (desk : Desk) where
         | false ↦ rise_from n r.row.id kept (omega (arith, above)) rises
       ]
 
-  rows_in_order : IsDesk desk → RowsRise rows
+  pub rows_in_order : IsDesk desk → RowsRise rows
   rows_in_order is =
       some_rise met 0 shown
       (some_rise (λ r. may_show s caller (seen_request r)) 0 desk.requests
-      (numbered_rise 0 desk.requests is.requests))
+      (rows_up (due_on s desk) 0 desk.requests is.requests))
 
   -- what was made of rows that are the desk's, for queues in the order of their names
   pub loads_are : IsDesk desk → (queues : List QueueRow) (read : List Dated)
@@ -155,3 +147,47 @@ module _ (s : Settings) (at : ℕ) (caller : List ℕ) (desk : Desk) where
   some_seen queues (Ok told) seen counted_are =
       counted_are ∙ ap (map (load_among at (sights s caller desk))) seen
   some_seen queues (Err refusal) seen counted_are = tt
+
+  -- rows that are those of the open requests rise too
+  pub open_rise : IsDesk desk → (read : List Dated) → read ≡ rows → RowsRise read
+  open_rise is read same = subst RowsRise (sym same) (rows_in_order is)
+
+  -- what the queues have that are seen, of those rows
+  pub home_loads_are : IsDesk desk → (queues : List QueueRow) (read : List Dated)
+      (told : List QueueLoad) → queues ≡ desk.queues → read ≡ rows
+      → (QueuesRise queues → RowsRise read
+      → told ≡ map (load_of at read) (filter (sees_queue s caller) queues))
+      → told ≡ queue_loads s at caller desk
+  home_loads_are is queues read told queues_is read_is made =
+      let seen = filter (sees_queue s caller) queues in
+      loads_are is seen read told read_is
+      (λ up. made (subst QueuesRise (sym queues_is) is.queues) up)
+      ∙ ap (λ qs. map (load_among at (sights s caller desk)) (filter (sees_queue s caller) qs))
+      queues_is
+
+-- some of the queues stand in the order of their names, as all do
+pub fewer_queues_rise : (s : Settings) (caller : List ℕ) (queues : List QueueRow)
+    → QueuesRise queues → QueuesRise (filter (sees_queue s caller) queues)
+fewer_queues_rise s caller queues rise =
+    filtered_rises has_lower_name (sees_queue s caller) queues
+    (λ x y z one two. orders_go_on nat_list_cmp_total x.name y.name z.name one two) rise
+
+abbrev as_home : Findings → Findings → Findings → List QueueLoad → Home
+as_home own asked free loads =
+    record { own = own; asked = asked; free = free; loads = loads }
+
+-- the first page is what its parts are
+pub home_of : (told : Home) (found : Findings × Findings × Findings) (loads : List QueueLoad)
+    → told.own ≡ found.0 → told.asked ≡ found.1 → told.free ≡ found.2 → told.loads ≡ loads
+    → (s : Settings) (at : ℕ) (caller : List ℕ) (searches : HomeSearches) (limit : ℕ) (desk : Desk)
+    → found.0 ≡ findings s at caller searches.own limit None desk
+    → found.1 ≡ findings s at caller searches.asked limit None desk
+    → found.2 ≡ findings s at caller searches.free limit None desk
+    → loads ≡ queue_loads s at caller desk
+    → told ≡ home s at caller searches limit desk
+home_of told found loads own_is asked_is free_is loads_is s at caller searches limit desk own asked
+    free counted =
+    ap₂ (λ (o a : Findings). as_home o a told.free told.loads) (own_is ∙ own) (asked_is ∙ asked)
+    ∙ ap₂ (λ (f : Findings) (l : List QueueLoad). as_home
+    (findings s at caller searches.own limit None desk)
+    (findings s at caller searches.asked limit None desk) f l) (free_is ∙ free) (loads_is ∙ counted)

@@ -1,22 +1,27 @@
 -- What is read of the tables for a search.
-use Rattle.std.specs.Prelude.{◌≡◌, ℕ, Bool, true, false, ◌||◌, List, [], filter, map, Option, Some, None}
+use Rattle.std.specs.Prelude.{◌≡◌, ℕ, Bool, true, false, ◌||◌, List, [], filter, if◌then◌else◌, map}
+use Rattle.std.specs.Prelude.{Option, Some, None}
 use Rattle.std.specs.Option.{option_map, option_map_or}
 use Rattle.settings_core.specs.declared.settings.Settings.{Settings}
-use Rattle.desk_model.specs.Desk.{Desk, Request}
+use Rattle.desk_model.specs.Desk.{Desk, Request, request_at}
 use Rattle.desk_model.specs.Due.{due_on}
-use Rattle.desk_model.specs.Facts.{facts_on_request, seen_request, seen_request_at}
+use Rattle.desk_model.specs.Facts.{seen_request}
 use Rattle.desk_model.specs.Rights.{may_show}
 use Rattle.desk_model.specs.declared.rows.Entry.{Entry}
+use Rattle.desk_model.specs.declared.rows.QueueRow.{QueueRow}
 use Rattle.desk_model.specs.declared.rows.RequestRow.{RequestRow}
 use Rattle.desk_model.specs.declared.rows.Watcher.{Watcher}
 use Rattle.find_core.specs.Conditions.{meets}
-use Rattle.find_core.specs.Find.{sight_on}
+use Rattle.find_core.specs.Find.{last_of, sight_on}
+use Rattle.find_core.specs.Loads.{open_in}
 use Rattle.find_core.specs.Ordered.{Placed}
-use Rattle.find_core.specs.Rows.{Dated, found_by, place_if, shows_comments, told_with}
+use Rattle.find_core.specs.Rows.{Dated, found_by, is_left, may_show_comments_by, place_if, row_among}
+use Rattle.find_core.specs.Rows.{told_with}
 use Rattle.find_core.specs.declared.search.Found.{Found}
 use Rattle.find_core.specs.declared.search.Order.{Order}
 use Rattle.find_core.specs.declared.search.Order.TheVariants.{ByLast}
 use Rattle.find_core.specs.declared.search.Search.{Search}
+use Rattle.report_core.specs.Rows.{RowsRise}
 use Rattle.store_tables.specs.Contents.{history_at, watchers}
 use Rattle.store_tables.specs.Contents.Watcher.{is_of_person}
 use Rattle.store_core.specs.Rows.{AreFiledIn, dated_rows}
@@ -44,22 +49,52 @@ abbrev pub asked_on : Settings → ℕ → List ℕ → Search → Desk → List
 asked_on settings at caller search desk =
     map (dated_on settings desk) (met_on settings at caller search desk)
 
--- the entries of a request that the caller is told
-abbrev pub told_at : Settings → List ℕ → Desk → ℕ → List Entry
-told_at settings caller desk id =
-    told_with (shows_comments settings caller (seen_request_at desk id)) (history_at desk id)
+-- What a search goes over: the caller's own watches, the queues, and rows in the order of their
+-- numbers, which have all that the caller may show and that meets the search but for its words.
+pub record Covers (settings : Settings) (at : ℕ) (caller : List ℕ) (search : Search) (desk : Desk)
+    (own : List Watcher) (queues : List QueueRow) (rows : List Dated) : Type 0 where
+  pub watched : own ≡ filter (is_of_person caller) (watchers desk)
+  pub queued : queues ≡ desk.queues
+  pub rise : RowsRise rows
+  pub left : filter (is_left settings at caller search own (theirs_on desk search.requestor) queues) rows
+      ≡ asked_on settings at caller search desk
 
--- where a row stands and when it is due, if the words are found in it or in what is told of it
-abbrev pub placed_by : Settings → List ℕ → Search → Desk → Dated → Option Placed
-placed_by settings caller search desk dated =
-    option_map (λ place. (place, dated.1))
-    (place_if search dated (told_at settings caller desk dated.0.id))
+-- the caller's own watches, the queues, and the rows of the open requests that the caller may show
+pub record AreOpen (settings : Settings) (at : ℕ) (caller : List ℕ) (desk : Desk)
+    (own : List Watcher) (queues : List QueueRow) (rows : List Dated) : Type 0 where
+  pub watched : own ≡ filter (is_of_person caller) (watchers desk)
+  pub queued : queues ≡ desk.queues
+  pub asked : rows ≡ asked_on settings at caller (open_in None false) desk
 
--- the request at a place as it is found, if it is there
-abbrev pub found_of : Settings → List ℕ → Desk → Placed → Option Found
-found_of settings caller desk placed =
-    found_by settings (facts_on_request desk placed.0.id)
-    (told_at settings caller desk placed.0.id) placed.1
+-- the entries of a row's request that the caller is told, by the caller's own watches
+abbrev pub told_by : Settings → List ℕ → List Watcher → Desk → RequestRow → List Entry
+told_by settings caller own desk row =
+    told_with (may_show_comments_by settings caller row own) (history_at desk row.id)
+
+-- where a row stands and when it is due, if it is left and the words are found in it or in what is
+-- told of it
+abbrev pub placed_by : Settings → ℕ → List ℕ → Search → List Watcher → List Watcher → List QueueRow
+    → Desk → Dated → Option Placed
+placed_by settings at caller search own theirs queues desk dated =
+    if is_left settings at caller search own theirs queues dated
+    then option_map (λ place. (place, dated.1))
+    (place_if search dated (told_by settings caller own desk dated.0))
+    else None
+
+-- the requestors of the request of that number, if it is there
+abbrev pub requestors_at : Desk → ℕ → List (List ℕ)
+requestors_at desk id = option_map_or (λ r. r.requestors) (request_at desk id) []
+
+-- when the last entry was made that the caller is told of a row's request
+abbrev pub last_by : Settings → List ℕ → List Watcher → Desk → RequestRow → ℕ
+last_by settings caller own desk row = last_of row.created (told_by settings caller own desk row)
+
+-- the row of these that stands at a place as it is found, if it is there
+abbrev pub found_of : Settings → List ℕ → List Watcher → List QueueRow → List Dated → Desk → Placed
+    → Option Found
+found_of settings caller own queues rows desk placed =
+    option_map (λ dated. found_by settings queues (last_by settings caller own desk dated.0)
+    (requestors_at desk dated.0.id) dated) (row_among rows placed.0.id)
 
 abbrev pub is_by_last : Order → Bool
 is_by_last ByLast = true

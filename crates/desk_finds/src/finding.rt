@@ -3,17 +3,18 @@ ghost use Rattle.std.specs.Prelude.{◌++◌, ◌≡◌, [], IfErr, IfOk, OnOk, 
 ghost use Rattle.std.specs.Prelude.{map};
 ghost use Rattle.std.specs.List.{cons_option};
 ghost use Rattle.std.specs.Option.{option_map};
+ghost use Rattle.report_core.specs.Rows.{QueuesRise, RowsRise, WatchesRise};
 ghost use Rattle.find_core.specs.Find.{findings};
-ghost use Rattle.find_core.specs.Rows.{place_if};
+ghost use Rattle.find_core.specs.Rows.{found_by, place_if};
 ghost use Rattle.store_tables.specs.Calls.{LeavesTables, Tells};
 ghost use Rattle.store_core.specs.Due.{TellsDue};
 ghost use Rattle.store_core.specs.Seen.{state_of};
-ghost use Rattle.desk_finds.specs.Found.{found_of, is_by_last, looks_inside};
-ghost use Rattle.desk_finds.specs.Found.{placed_by, told_at};
+ghost use Rattle.desk_finds.specs.Found.{Covers, found_of, is_by_last, last_by, looks_inside};
+ghost use Rattle.desk_finds.specs.Found.{placed_by, requestors_at, told_by};
 
-use crate::reading::{Dated, asked, history};
-use desk_core::{Call, Refusal};
-use find_core::{Findings, Found, Order, Place, Placed, Search, place_if};
+use crate::reading::{Dated, last_told, requestors_of, rows_in, told_of, watches_by};
+use desk_core::{Call, QueueRow, Refusal, Watcher};
+use find_core::{Findings, Found, Order, Place, Placed, Search, is_left, place_if, row_at};
 use hours_core::Minute;
 use settings_core::Settings;
 use std::alloc::{AllocError, Global};
@@ -24,7 +25,7 @@ use text_core::Sequence;
 /// keep: those of a page that come after a place, or from the first on, at most so many, and how
 /// many there are on all pages. `Unavailable` where memory or the store refused. The tables stay as
 /// they are.
-#[tactic(auto, using(store_tables::proofs::Spared::joined, store_tables::proofs::Spared::stands_for))]
+#[tactic(auto, using(store_tables::proofs::Spared::joined, store_tables::proofs::Spared::stands))]
 pub fn find<S: Backend>(
     alloc: Global,
     store: &mut Store<S>,
@@ -40,13 +41,50 @@ pub fn find<S: Backend>(
     ensures kept { LeavesTables (state_of S.Store store.old) (state_of S.Store store.new) }
     ensures fault { IfErr result (λ refusal. refusal ≡ Refusal.Unavailable) }
 {
-    let (settings, caller) = (call.settings, call.caller);
-    let rows = asked(alloc, store, call, search)?;
-    let placed = placed(alloc, store, settings, caller, search, rows.as_slice())?;
-    drop(rows);
+    let own = store.watches_of(alloc, call.caller)?;
+    let queues = store.queues(alloc)?;
+    let rows = rows_in(alloc, store, &search.queue)?;
+    let (own, queues, rows) = (own.as_slice(), queues.as_slice(), rows.as_slice());
+    find_among(alloc, store, call, search, limit, after, own, queues, rows)
+}
+
+/// What a search finds among these rows, by the caller's own watches, and the queues.
+#[tactic(auto, using(store_tables::proofs::Spared::joined, store_tables::proofs::Spared::stands_for))]
+pub(crate) fn find_among<S: Backend>(
+    alloc: Global,
+    store: &mut Store<S>,
+    call: Call<'_>,
+    search: &Search,
+    limit: u32,
+    after: Option<Place>,
+    own: &[Watcher],
+    queues: &[QueueRow],
+    rows: &[Dated],
+) -> Result<Findings, Refusal>
+    ensures told { TellsDue call.entry.settings.now (λ desk found.
+        Covers call.entry.settings.now call.entry.at call.entry.caller.now search.now desk own.now
+        queues.now rows.now
+        → found ≡ findings call.entry.settings.now call.entry.at call.entry.caller.now search.now
+        limit after desk)
+        (state_of S.Store store.old) (state_of S.Store store.new) result }
+    ensures kept { LeavesTables (state_of S.Store store.old) (state_of S.Store store.new) }
+    ensures fault { IfErr result (λ refusal. refusal ≡ Refusal.Unavailable) }
+{
+    let theirs = watches_by(alloc, store, &search.requestor)?;
+    let placed = placed(
+        alloc,
+        store,
+        call,
+        search,
+        own,
+        theirs.as_slice(),
+        queues,
+        rows,
+    )?;
+    drop(theirs);
     let count = count_of(placed.as_slice())?;
     let page = find_core::page(search, limit, after, placed)?;
-    let found = found(alloc, store, settings, caller, page.as_slice())?;
+    let found = found(alloc, store, call, own, queues, rows, page.as_slice())?;
     Ok(Findings {
         rows: Sequence::from(found),
         count,
@@ -68,25 +106,29 @@ fn count_of(placed: &[Placed]) -> Result<u32, Refusal>
 /// The greatest number that a request can have.
 const MOST_REQUESTS: usize = 4_294_967_295;
 
-/// Where those of the rows stand in which the words are found.
+/// Where those of the rows stand that are left, and in which the words are found. All lists stand in
+/// their orders.
 #[tactic(auto, using(store_tables::proofs::Spared::joined, store_tables::proofs::Spared::stands_for))]
 fn placed<S: Backend>(
     alloc: Global,
     store: &mut Store<S>,
-    settings: &Settings,
-    caller: &str,
+    call: Call<'_>,
     search: &Search,
+    own: &[Watcher],
+    theirs: &[Watcher],
+    queues: &[QueueRow],
     rows: &[Dated],
 ) -> Result<Vec<Placed>, Refusal>
-    ensures told { Tells (λ desk placed. placed.items
-        ≡ filter_map (placed_by settings.now caller.now search.now desk) rows.now)
+    ensures told { WatchesRise own.now → WatchesRise theirs.now → QueuesRise queues.now
+        → Tells (λ desk placed. placed.items ≡ filter_map (placed_by call.entry.settings.now
+        call.entry.at call.entry.caller.now search.now own.now theirs.now queues.now desk) rows.now)
         (state_of S.Store store.old) (state_of S.Store store.new) result }
     ensures kept { LeavesTables (state_of S.Store store.old) (state_of S.Store store.new) }
     ensures fault { IfErr result (λ refusal. refusal ≡ Refusal.Unavailable) }
 {
     let mut placed = Vec::new(alloc);
     for dated in rows {
-        let place = place_of(alloc, store, settings, caller, search, dated)?;
+        let place = place_of(alloc, store, call, search, own, theirs, queues, dated)?;
         put(&mut placed, place, dated.1)?;
     }
     Ok(placed)
@@ -107,26 +149,54 @@ fn put(
     Ok(())
 }
 
-/// Where a row stands, if the words are found in it. Its history is read only where the search
-/// looks into it.
-#[tactic(auto, using(store_tables::proofs::Spared::joined, store_tables::proofs::Spared::stands_for))]
+/// Where a row stands, if it is left and the words are found in it. All lists stand in their orders.
+#[tactic(auto, using(store_tables::proofs::Spared::unread))]
 fn place_of<S: Backend>(
+    alloc: Global,
+    store: &mut Store<S>,
+    call: Call<'_>,
+    search: &Search,
+    own: &[Watcher],
+    theirs: &[Watcher],
+    queues: &[QueueRow],
+    dated: &Dated,
+) -> Result<Option<Place>, Refusal>
+    ensures told { WatchesRise own.now → WatchesRise theirs.now → QueuesRise queues.now
+        → Tells (λ desk place. option_map (λ p. (p, dated.now.1)) place
+        ≡ placed_by call.entry.settings.now call.entry.at call.entry.caller.now search.now own.now
+        theirs.now queues.now desk dated.now)
+        (state_of S.Store store.old) (state_of S.Store store.new) result }
+    ensures kept { LeavesTables (state_of S.Store store.old) (state_of S.Store store.new) }
+    ensures fault { IfErr result (λ refusal. refusal ≡ Refusal.Unavailable) }
+{
+    let (settings, at, caller) = (call.settings, call.at, call.caller);
+    if is_left(settings, at, caller, search, own, theirs, queues, dated) {
+        sought(alloc, store, settings, caller, search, own, dated)
+    } else {
+        Ok(None)
+    }
+}
+
+/// Where a row stands, if the words are found in it. Its history is read only where the search looks
+/// into it.
+#[tactic(auto, using(store_tables::proofs::Spared::unread))]
+fn sought<S: Backend>(
     alloc: Global,
     store: &mut Store<S>,
     settings: &Settings,
     caller: &str,
     search: &Search,
+    own: &[Watcher],
     dated: &Dated,
 ) -> Result<Option<Place>, Refusal>
-    ensures told { Tells (λ desk place. place ≡ place_if search.now dated.now
-        (told_at settings.now caller.now desk dated.now.0.id))
+    ensures told { WatchesRise own.now → Tells (λ desk place. place ≡ place_if search.now dated.now
+        (told_by settings.now caller.now own.now desk dated.now.0))
         (state_of S.Store store.old) (state_of S.Store store.new) result }
     ensures kept { LeavesTables (state_of S.Store store.old) (state_of S.Store store.new) }
     ensures fault { IfErr result (λ refusal. refusal ≡ Refusal.Unavailable) }
 {
     if looks_inside(search) {
-        let (facts, told) = history(alloc, store, settings, caller, dated.0.id)?;
-        drop(facts);
+        let told = told_of(alloc, store, settings, caller, own, &dated.0)?;
         Ok(place_if(search, dated, told.as_slice()))
     } else {
         Ok(place_if(search, dated, &[]))
@@ -149,59 +219,63 @@ fn is_by_last(order: Order) -> bool
     }
 }
 
-/// The requests at these places as they are found.
+/// The rows at these places as they are found. All lists stand in their orders.
 #[tactic(auto, using(store_tables::proofs::Spared::joined, store_tables::proofs::Spared::stands_for))]
 fn found<S: Backend>(
     alloc: Global,
     store: &mut Store<S>,
-    settings: &Settings,
-    caller: &str,
+    call: Call<'_>,
+    own: &[Watcher],
+    queues: &[QueueRow],
+    rows: &[Dated],
     page: &[Placed],
 ) -> Result<Vec<Found>, Refusal>
-    ensures told { Tells (λ desk found. map Some found.items
-        ≡ map (found_of settings.now caller.now desk) page.now)
+    ensures told { WatchesRise own.now → QueuesRise queues.now → RowsRise rows.now
+        → Tells (λ desk found. map Some found.items ≡ map (found_of call.entry.settings.now
+        call.entry.caller.now own.now queues.now rows.now desk) page.now)
         (state_of S.Store store.old) (state_of S.Store store.new) result }
     ensures kept { LeavesTables (state_of S.Store store.old) (state_of S.Store store.new) }
     ensures fault { IfErr result (λ refusal. refusal ≡ Refusal.Unavailable) }
 {
-    let mut rows = Vec::new(alloc);
+    let mut told = Vec::new(alloc);
     for placed in page {
-        let found = found_at(alloc, store, settings, caller, placed)?;
-        rows.push(found)?;
+        let dated = there(row_at(rows, placed.0.id))?;
+        let found = found_at(alloc, store, call, own, queues, dated)?;
+        told.push(found)?;
     }
-    Ok(rows)
+    Ok(told)
 }
 
-/// The request at a place as it is found; `Unavailable` where it isn't there.
+/// A row as it is found. The lists stand in their orders.
 #[tactic(auto, using(store_tables::proofs::Spared::joined, store_tables::proofs::Spared::stands_for))]
 fn found_at<S: Backend>(
     alloc: Global,
     store: &mut Store<S>,
-    settings: &Settings,
-    caller: &str,
-    placed: &Placed,
+    call: Call<'_>,
+    own: &[Watcher],
+    queues: &[QueueRow],
+    dated: &Dated,
 ) -> Result<Found, Refusal>
-    ensures told { Tells (λ desk found. Some found
-        ≡ found_of settings.now caller.now desk placed.now)
+    ensures told { WatchesRise own.now → QueuesRise queues.now → Tells (λ desk found. found
+        ≡ found_by call.entry.settings.now queues.now (last_by call.entry.settings.now
+        call.entry.caller.now own.now desk dated.now.0) (requestors_at desk dated.now.0.id) dated.now)
         (state_of S.Store store.old) (state_of S.Store store.new) result }
     ensures kept { LeavesTables (state_of S.Store store.old) (state_of S.Store store.new) }
     ensures fault { IfErr result (λ refusal. refusal ≡ Refusal.Unavailable) }
 {
-    let (place, due) = placed;
-    let (facts, told) = history(alloc, store, settings, caller, place.id)?;
-    let found = find_core::found(settings, &facts, told.as_slice(), *due)?;
-    drop(facts);
-    drop(told);
-    there(found)
+    let last = last_told(alloc, store, call.settings, call.caller, own, &dated.0)?;
+    let requestors = requestors_of(alloc, store, dated.0.id)?;
+    let found = find_core::found(call.settings, queues, dated, requestors, last)?;
+    Ok(found)
 }
 
-/// The request that was found; `Unavailable` where there is none.
-fn there(found: Option<Found>) -> Result<Found, Refusal>
-    ensures ok { IfOk result (λ it. found ≡ Some it) }
+/// The row that was looked up; `Unavailable` where there is none.
+fn there(dated: Option<&Dated>) -> Result<&Dated, Refusal>
+    ensures ok { IfOk result (λ it. option_map (λ d. d.now) dated.entry ≡ Some it.now) }
     ensures fault { IfErr result (λ refusal. refusal ≡ Refusal.Unavailable) }
 {
-    match found {
-        Some(found) => Ok(found),
+    match dated {
+        Some(dated) => Ok(dated),
         None => Err(Refusal::Unavailable),
     }
 }

@@ -2,8 +2,10 @@
 #![tactic(auto)]
 
 mod finding;
+mod homing;
 mod loading;
 mod reading;
 
 pub use finding::find;
+pub use homing::home;
 pub use loading::queue_loads;

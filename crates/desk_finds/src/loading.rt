@@ -8,9 +8,9 @@ ghost use Rattle.store_tables.specs.Calls.{LeavesTables, Tells};
 ghost use Rattle.store_core.specs.Due.{TellsDue};
 ghost use Rattle.store_core.specs.Seen.{state_of};
 
-use crate::reading::asked;
+use crate::reading::open_rows;
 use desk_core::{Call, QueueRow, Refusal};
-use find_core::{QueueLoad, open_ones, queues_seen};
+use find_core::{QueueLoad, queues_seen};
 use settings_core::Settings;
 use std::alloc::Global;
 use store_core::{Backend, Store};
@@ -73,8 +73,9 @@ fn loads<S: Backend>(
     ensures kept { LeavesTables (state_of S.Store store.old) (state_of S.Store store.new) }
     ensures fault { IfErr result (λ refusal. refusal ≡ Refusal.Unavailable) }
 {
-    let search = open_ones(alloc);
-    let rows = asked(alloc, store, call, &search)?;
+    let own = store.watches_of(alloc, call.caller)?;
+    let all = store.queues(alloc)?;
+    let rows = open_rows(alloc, store, call, own.as_slice(), all.as_slice())?;
     let told = find_core::queue_loads(alloc, call.at, queues, rows.as_slice())?;
     Ok(told)
 }

@@ -1,53 +1,56 @@
 //! The rows that a search goes over, and what is told of one request.
-ghost use Rattle.std.specs.Prelude.{◌≡◌, IfErr};
+ghost use Rattle.std.specs.Prelude.{◌≡◌, [], IfErr, IfOk, None, false, filter};
+ghost use Rattle.std.specs.Option.{option_map_or};
 ghost use Rattle.desk_model.specs.Facts.{facts_on_request};
-ghost use Rattle.find_core.specs.Rows.{shows_comments, told_with};
+ghost use Rattle.report_core.specs.Rows.{WatchesRise};
+ghost use Rattle.find_core.specs.Loads.{open_in};
 ghost use Rattle.store_tables.specs.Calls.{LeavesTables, Tells};
-ghost use Rattle.store_tables.specs.Contents.{history_at};
+ghost use Rattle.store_tables.specs.Contents.{watchers};
+ghost use Rattle.store_tables.specs.Contents.Watcher.{is_of_person};
 ghost use Rattle.store_core.specs.Due.{TellsDue};
 ghost use Rattle.store_core.specs.Rows.{TellsDated};
 ghost use Rattle.store_core.specs.Seen.{state_of};
-ghost use Rattle.desk_finds.specs.Found.{ArePart, asked_on, theirs_on, told_at};
+ghost use Rattle.desk_finds.specs.Found.{ArePart, asked_on, last_by, requestors_at, theirs_on};
+ghost use Rattle.desk_finds.specs.Found.{told_by};
 
-use desk_core::{Call, Command, Entry, Facts, Refusal, RequestRow, Watcher};
-use find_core::{Search, asked_rows, told};
+use desk_core::{Call, Command, Entry, Facts, QueueRow, Refusal, RequestRow, Watcher};
+use find_core::{asked_rows, last, open_ones, shows_comments, told};
 use hours_core::Minute;
 use settings_core::Settings;
 use std::alloc::Global;
 use store_core::{Backend, Store};
-use text_core::Text;
+use text_core::{Text, Texts};
 
 /// A row of a request and its due moment.
 pub(crate) type Dated = (RequestRow, Option<Minute>);
 
-/// The rows of the requests that the caller may show and that meet the search but for its words, in
-/// the order of their numbers. `Unavailable` where memory or the store refused. The tables stay as
-/// they are.
-#[tactic(auto, using(store_tables::proofs::Spared::joined, store_tables::proofs::Spared::stands))]
-pub(crate) fn asked<S: Backend>(
+/// The rows of the open requests that the caller may show, in the order of their numbers, by the
+/// caller's own watches, and the queues. `Unavailable` where memory or the store refused. The tables
+/// stay as they are.
+pub(crate) fn open_rows<S: Backend>(
     alloc: Global,
     store: &mut Store<S>,
     call: Call<'_>,
-    search: &Search,
+    own: &[Watcher],
+    queues: &[QueueRow],
 ) -> Result<Vec<Dated>, Refusal>
-    ensures told { TellsDue call.entry.settings.now
-        (λ desk rows. rows.items ≡ asked_on call.entry.settings.now call.entry.at
-        call.entry.caller.now search.now desk)
+    ensures told { TellsDue call.entry.settings.now (λ desk rows.
+        own.now ≡ filter (is_of_person call.entry.caller.now) (watchers desk)
+        → queues.now ≡ desk.queues
+        → rows.items ≡ asked_on call.entry.settings.now call.entry.at call.entry.caller.now
+        (open_in None false) desk)
         (state_of S.Store store.old) (state_of S.Store store.new) result }
     ensures kept { LeavesTables (state_of S.Store store.old) (state_of S.Store store.new) }
     ensures fault { IfErr result (λ refusal. refusal ≡ Refusal.Unavailable) }
 {
-    let own = store.watches_of(alloc, call.caller)?;
-    let theirs = watches_by(alloc, store, &search.requestor)?;
-    let queues = store.queues(alloc)?;
-    let rows = rows_in(alloc, store, &search.queue)?;
-    let (own, theirs, queues) = (own.as_slice(), theirs.as_slice(), queues.as_slice());
+    let rows = store.dated_requests(alloc)?;
+    let search = open_ones(alloc);
     let (settings, at, caller) = (call.settings, call.at, call.caller);
-    Ok(asked_rows(settings, at, caller, search, own, theirs, queues, rows))
+    Ok(asked_rows(settings, at, caller, &search, own, &[], queues, rows))
 }
 
 /// The watches of a person, if one is given.
-fn watches_by<S: Backend>(
+pub(crate) fn watches_by<S: Backend>(
     alloc: Global,
     store: &mut Store<S>,
     person: &Option<Text>,
@@ -67,7 +70,7 @@ fn watches_by<S: Backend>(
 }
 
 /// The rows of a queue, or of all where none is given, each with its due moment.
-fn rows_in<S: Backend>(
+pub(crate) fn rows_in<S: Backend>(
     alloc: Global,
     store: &mut Store<S>,
     queue: &Option<Text>,
@@ -89,31 +92,61 @@ fn rows_in<S: Backend>(
     }
 }
 
-/// The facts of a request, and the entries of its history that the caller is told. `Unavailable`
-/// where memory or the store refused. The tables stay as they are.
-#[tactic(auto, using(store_tables::proofs::Spared::joined, store_tables::proofs::Spared::stands_for))]
-pub(crate) fn history<S: Backend>(
+/// The entries that the caller is told of a row's request, by one read. The caller's own watches
+/// stand in the order of their requests. `Unavailable` where memory or the store refused. The tables
+/// stay as they are.
+pub(crate) fn told_of<S: Backend>(
     alloc: Global,
     store: &mut Store<S>,
     settings: &Settings,
     caller: &str,
-    id: u32,
-) -> Result<(Facts, Vec<Entry>), Refusal>
-    ensures facts { Tells (λ desk told. told.0 ≡ facts_on_request desk id)
+    own: &[Watcher],
+    row: &RequestRow,
+) -> Result<Vec<Entry>, Refusal>
+    ensures told { WatchesRise own.now → Tells (λ desk told. told.items
+        ≡ told_by settings.now caller.now own.now desk row.now)
         (state_of S.Store store.old) (state_of S.Store store.new) result }
-    ensures told { Tells (λ desk told. told.1.items ≡ told_at settings.now caller.now desk id)
+    ensures kept { LeavesTables (state_of S.Store store.old) (state_of S.Store store.new) }
+    ensures fault { IfErr result (λ refusal. refusal ≡ Refusal.Unavailable) }
+{
+    let entries = store.entries_of(alloc, row.id)?;
+    Ok(told(shows_comments(settings, caller, own, row), entries))
+}
+
+/// When the last entry was made that the caller is told of a row's request.
+pub(crate) fn last_told<S: Backend>(
+    alloc: Global,
+    store: &mut Store<S>,
+    settings: &Settings,
+    caller: &str,
+    own: &[Watcher],
+    row: &RequestRow,
+) -> Result<Minute, Refusal>
+    ensures told { WatchesRise own.now → Tells (λ desk moment. moment
+        ≡ last_by settings.now caller.now own.now desk row.now)
+        (state_of S.Store store.old) (state_of S.Store store.new) result }
+    ensures kept { LeavesTables (state_of S.Store store.old) (state_of S.Store store.new) }
+    ensures fault { IfErr result (λ refusal. refusal ≡ Refusal.Unavailable) }
+{
+    let told = told_of(alloc, store, settings, caller, own, row)?;
+    Ok(last(row.created, told.as_slice()))
+}
+
+/// The requestors of a request.
+pub(crate) fn requestors_of<S: Backend>(
+    alloc: Global,
+    store: &mut Store<S>,
+    id: u32,
+) -> Result<Texts, Refusal>
+    ensures told { Tells (λ desk names. names ≡ requestors_at desk id)
         (state_of S.Store store.old) (state_of S.Store store.new) result }
     ensures kept { LeavesTables (state_of S.Store store.old) (state_of S.Store store.new) }
     ensures fault { IfErr result (λ refusal. refusal ≡ Refusal.Unavailable) }
 {
     let facts = facts_at(alloc, store, id)?;
-    match told_of(alloc, store, settings, caller, id, &facts) {
-        Ok(told) => Ok((facts, told)),
-        Err(refusal) => {
-            drop(facts);
-            Err(refusal)
-        }
-    }
+    let names = requestors_in(alloc, &facts);
+    drop(facts);
+    names
 }
 
 /// The facts of a request.
@@ -130,21 +163,17 @@ fn facts_at<S: Backend>(alloc: Global, store: &mut Store<S>, id: u32) -> Result<
     Ok(facts)
 }
 
-/// The entries that the caller is told of a request of these facts.
-fn told_of<S: Backend>(
-    alloc: Global,
-    store: &mut Store<S>,
-    settings: &Settings,
-    caller: &str,
-    id: u32,
-    facts: &Facts,
-) -> Result<Vec<Entry>, Refusal>
-    ensures told { Tells (λ desk told. told.items ≡ told_with
-        (shows_comments settings.now caller.now facts.now.request) (history_at desk id))
-        (state_of S.Store store.old) (state_of S.Store store.new) result }
-    ensures kept { LeavesTables (state_of S.Store store.old) (state_of S.Store store.new) }
+/// The requestors among these facts.
+fn requestors_in(alloc: Global, facts: &Facts) -> Result<Texts, Refusal>
+    ensures ok { IfOk result
+        (λ names. names ≡ option_map_or (λ r. r.requestors) facts.now.request []) }
     ensures fault { IfErr result (λ refusal. refusal ≡ Refusal.Unavailable) }
 {
-    let entries = store.entries_of(alloc, id)?;
-    Ok(told(settings, caller, &facts.request, entries))
+    match &facts.request {
+        Some(request) => {
+            let names = request.requestors.clone()?;
+            Ok(names)
+        }
+        None => Ok(Texts::from(Vec::new(alloc))),
+    }
 }

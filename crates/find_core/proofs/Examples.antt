@@ -6,6 +6,10 @@ use Rattle.std.specs.Char.{encode_utf8}
 use Rattle.std.specs.Str.{chars}
 use Rattle.caseless.proofs.Computing.{caseless}
 use Rattle.lifecycle_core.specs.declared.lifecycle.Class.TheVariants.{Initial, Active, Inactive as Ended}
+use Rattle.rights_core.specs.People.{holds}
+use Rattle.rights_core.specs.Right.{show_ticket_comments}
+use Rattle.settings_core.specs.Settings.{people_of}
+use Rattle.settings_core.specs.declared.settings.Settings.{Settings}
 use Rattle.desk_model.specs.declared.refusal.Refusal.TheVariants.{UnknownCaller, BadMoment}
 use Rattle.desk_model.specs.declared.rows.Entry.{Entry}
 use Rattle.desk_model.specs.declared.rows.EntryKind.TheVariants as kind
@@ -24,7 +28,8 @@ use Rattle.find_core.specs.Laws.{last_among}
 use Rattle.find_core.specs.Loads.{counted, counted_in, load_among, load_of, no_load, open_in}
 use Rattle.find_core.specs.Places.{in_direction, in_order, is_after, is_before, key_of_due}
 use Rattle.find_core.specs.Places.{limit_of, page, place_of, rows_after}
-use Rattle.find_core.specs.Rows.{Dated, is_requested, place_if, row_meets, told_with}
+use Rattle.find_core.specs.Rows.{Dated, found_by, is_requested, may_show_comments_by}
+use Rattle.find_core.specs.Rows.{numbered_only, place_if, row_among, row_meets, told_with}
 use Rattle.find_core.specs.Words.{begins, has_words, stands_in}
 use Rattle.find_core.specs.declared.loads.QueueLoad.{QueueLoad}
 use Rattle.find_core.specs.declared.search.Found.{Found}
@@ -519,6 +524,38 @@ told_without_comments :
     ≡ entry 100 kind.Create (codes "new") ∷ entry 200 kind.Reply (codes "No toner")
     ∷ entry 300 kind.Status (codes "open") ∷ []
 told_without_comments = refl
+
+-- a watch of the request counts, and one of another doesn't
+comments_by_the_roles :
+    (settings : Settings)
+    → may_show_comments_by settings (codes "ann") (row (codes "general") (codes "open"))
+    (watcher 7 Cc (codes "ann") ∷ watcher 8 Requestor (codes "ann") ∷ [])
+    ≡ holds (people_of settings) (codes "ann") show_ticket_comments (codes "general")
+    (record { owner = false; requestor = false; cc = true; admin_cc = false })
+comments_by_the_roles settings = refl
+
+abbrev rows_of_two : List Dated
+rows_of_two = dated (codes "sales") None ∷ (record (row [] []) { id = 9 }, Some 400) ∷ []
+
+row_of_a_number : row_among rows_of_two 9 ≡ Some (record (row [] []) { id = 9 }, Some 400)
+row_of_a_number = refl
+
+no_row_of_that_number : row_among rows_of_two 8 ≡ None
+no_row_of_that_number = refl
+
+row_if_it_has_the_number :
+    numbered_only 7 (Some (dated (codes "sales") None)) ≡ Some (dated (codes "sales") None)
+row_if_it_has_the_number = refl
+
+row_of_another_number : numbered_only 8 (Some (dated (codes "sales") None)) ≡ None
+row_of_another_number = refl
+
+-- without its queue it has no class
+row_as_it_is_found :
+    (settings : Settings)
+    → found_by settings [] 300 (codes "ann" ∷ []) (dated (codes "general") (Some 400))
+    ≡ record (found 7 (Some 400) 300) { class = None }
+row_as_it_is_found settings = refl
 
 -- by the last entry that is told
 place_of_a_row_with_its_words :

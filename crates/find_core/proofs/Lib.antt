@@ -1,6 +1,7 @@
 mod CountLemmas
 mod Examples
 mod LetterLemmas
+mod NumberLemmas
 mod PageLemmas
 pub mod PlaceLemmas
 pub mod RisingLemmas

@@ -1,5 +1,6 @@
 pub mod Conditions
 pub mod Find
+pub mod Home
 pub mod Laws
 pub mod Loads
 pub mod Ordered

@@ -1,14 +1,14 @@
 -- What is told of rows that were read.
-use Rattle.std.specs.Prelude.{ℕ, Bool, true, not, ◌&&◌, ◌||◌, List, filter, Option, Some, None}
-use Rattle.std.specs.Prelude.{if◌then◌else◌}
-use Rattle.std.specs.Option.{option_map, option_map_or}
+use Rattle.std.specs.Prelude.{ℕ, Bool, true, not, ◌&&◌, ◌||◌, ◌==◌, List, filter, find, Option, Some}
+use Rattle.std.specs.Prelude.{None, if◌then◌else◌, option_and_then}
+use Rattle.std.specs.Option.{option_map_or}
+use Rattle.rights_core.specs.People.{holds}
+use Rattle.rights_core.specs.Right.{show_ticket_comments}
+use Rattle.settings_core.specs.Settings.{people_of}
 use Rattle.settings_core.specs.declared.settings.Settings.{Settings}
 use Rattle.lifecycle_core.specs.declared.lifecycle.Class.{Class}
 use Rattle.desk_model.specs.Readings.History.{is_comment}
-use Rattle.desk_model.specs.Rights.{may_show_comments}
-use Rattle.desk_model.specs.Watchers.{is_watching, may_show_by}
-use Rattle.desk_model.specs.declared.facts.Facts.{Facts}
-use Rattle.desk_model.specs.declared.facts.SeenRequest.{SeenRequest}
+use Rattle.desk_model.specs.Watchers.{is_watching, may_show_by, roles_among}
 use Rattle.desk_model.specs.declared.rows.Entry.{Entry}
 use Rattle.desk_model.specs.declared.rows.QueueRow.{QueueRow}
 use Rattle.desk_model.specs.declared.rows.RequestRow.{RequestRow}
@@ -16,7 +16,7 @@ use Rattle.desk_model.specs.declared.rows.Watcher.{Watcher}
 use Rattle.desk_model.specs.declared.rows.WatchRole.TheVariants.{Requestor}
 use Rattle.report_core.specs.Rows.{queue_among}
 use Rattle.find_core.specs.Conditions.{has_owner, has_status, is_due, is_filed, is_in, texts_sought}
-use Rattle.find_core.specs.Find.{class_in, last_of, replies_of, sight_in}
+use Rattle.find_core.specs.Find.{class_in, found_with, last_of, replies_of}
 use Rattle.find_core.specs.Places.{place_in}
 use Rattle.find_core.specs.Words.{has_words}
 use Rattle.find_core.specs.declared.search.Found.{Found}
@@ -48,9 +48,11 @@ is_left settings at person search own theirs queues dated =
     row_meets at search (class_in settings (queue_among queues dated.0.queue) dated.0.status) dated
     && (is_requested search.requestor theirs dated.0.id && may_show_by settings person dated.0 own)
 
--- whether the request may show its comments to the person, if it is there
-abbrev pub shows_comments : Settings → List ℕ → Option SeenRequest → Bool
-shows_comments settings person request = option_map_or (may_show_comments settings person) request true
+-- the right to see the comments of a request, held with the person's roles on it by these watches
+abbrev pub may_show_comments_by : Settings → List ℕ → RequestRow → List Watcher → Bool
+may_show_comments_by settings person row watches =
+    holds (people_of settings) person show_ticket_comments row.queue
+    (roles_among person row watches)
 
 -- the entries that are told, with the comments or without them
 abbrev pub told_with : Bool → List Entry → List Entry
@@ -63,8 +65,17 @@ place_if search dated entries =
     then Some (place_in search.order dated.0.id dated.1 (last_of dated.0.created entries))
     else None
 
--- a request as it is found, by its facts, the entries that are told and its due moment
-abbrev pub found_by : Settings → Facts → List Entry → Option ℕ → Option Found
-found_by settings facts entries due =
-    option_map (λ r. (sight_in settings facts.queue due entries r.requestors r.row).found)
-    facts.request
+-- the row of that number, if it is among these
+abbrev pub row_among : List Dated → ℕ → Option Dated
+row_among rows id = find (λ d. d.0.id == id) rows
+
+-- the row, if it has that number
+abbrev pub numbered_only : ℕ → Option Dated → Option Dated
+numbered_only id dated = option_and_then (λ d. if d.0.id == id then Some d else None) dated
+
+-- a row with its due moment as it is found, where these are the queues: with the moment of the last
+-- entry that is told, and the requestors
+abbrev pub found_by : Settings → List QueueRow → ℕ → List (List ℕ) → Dated → Found
+found_by settings queues last requestors dated =
+    found_with (class_in settings (queue_among queues dated.0.queue) dated.0.status) dated.1 last
+    requestors dated.0

@@ -3,6 +3,7 @@ ghost use Rattle.std.specs.Prelude.{◌≡◌, true, Some, filter, nat_le, nat_l
 ghost use Rattle.std.specs.Option.{option_map, option_map_or};
 ghost use Rattle.desk_model.specs.Due.{is_live_class};
 ghost use Rattle.desk_model.specs.Lifecycles.{is_inactive_class};
+ghost use Rattle.desk_model.specs.Watchers as watchers;
 ghost use Rattle.report_core.specs.Rows.{QueuesRise, WatchesRise};
 ghost use Rattle.find_core.specs.Conditions as conditions;
 ghost use Rattle.find_core.specs.Find.{class_in};
@@ -37,7 +38,9 @@ pub fn asked_rows(
     rows
 }
 
-fn is_left(
+/// Whether the person may show a row, and it meets the search but for its words: by lists that stand
+/// in the same orders.
+pub fn is_left(
     settings: &Settings,
     at: u32,
     person: &str,
@@ -101,18 +104,19 @@ fn is_requested(asked: &Option<Text>, theirs: &[Watcher], id: u32) -> bool
     ensures { WatchesRise theirs.now → result ≡ judged.is_requested asked.now theirs.now id }
 {
     match asked {
-        Some(person) => requests(person, watches_of(theirs, id), id),
+        Some(person) => {
+            let watches = watches_of(theirs, id);
+            is_watching(person.as_str(), id, WatchRole::Requestor, watches)
+        }
         None => true,
     }
 }
 
-/// Whether the person is a requestor of the request by these watches.
-fn requests(person: &Text, watches: &[Watcher], id: u32) -> bool
-    ensures { result ≡ judged.is_requested (Some person.now) watches.now id }
+/// Whether a person is in that role on the request with this number, by these watches.
+pub(crate) fn is_watching(person: &str, id: u32, role: WatchRole, watches: &[Watcher]) -> bool
+    ensures { result ≡ watchers.is_watching person.now id role watches.now }
 {
-    watches.iter().any(|watch| {
-        watch.id == id && is_role(WatchRole::Requestor, watch.role) && watch.person == *person
-    })
+    watches.iter().any(|w| w.id == id && is_role(role, w.role) && w.person.as_str() == person)
 }
 
 pub(crate) fn is_in(asked: &Option<Text>, queue: &Text) -> bool

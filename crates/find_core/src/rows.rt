@@ -1,48 +1,24 @@
 //! Where rows stand, and what is told of them.
 ghost use Rattle.std.specs.Prelude.{◌≡◌, IfOk};
+ghost use Rattle.std.specs.Option.{option_map};
+ghost use Rattle.report_core.specs.Rows.{QueuesRise, RowsRise};
 ghost use Rattle.find_core.specs.Conditions.{texts_sought};
 ghost use Rattle.find_core.specs.Find as find;
 ghost use Rattle.find_core.specs.Find.{last_of, replies_of};
 ghost use Rattle.find_core.specs.Places as places;
 ghost use Rattle.find_core.specs.Words as words;
-ghost use Rattle.find_core.specs.Rows as rows;
+ghost use Rattle.find_core.specs.Rows as judged;
 
 use crate::conditions::class_of;
 use crate::search::{Found, Order, Place, Search, key_of_due};
 use crate::words::has_words;
-use desk_core::{Entry, Facts, RequestRow, SeenRequest};
+use desk_core::{Entry, QueueRow, RequestRow};
 use hours_core::Minute;
 use lifecycle_core::Class;
+use report_core::queue_named;
 use settings_core::Settings;
 use std::alloc::AllocError;
 use text_core::{Text, Texts};
-
-/// The entries of a request that a person is told, without the comments that the person may not
-/// see. Those of a request that isn't there are told whole.
-pub fn told(
-    settings: &Settings,
-    person: &str,
-    request: &Option<SeenRequest>,
-    mut entries: Vec<Entry>,
-) -> Vec<Entry>
-    ensures { result.items ≡ rows.told_with
-        (rows.shows_comments settings.now person.now request.now) entries.items }
-{
-    let comments = shows_comments(settings, person, request);
-    entries.retain(|entry| !entry.kind.is_comment() || comments);
-    entries
-}
-
-/// Whether the person may see the comments of a request; those of one that isn't there hide
-/// nothing.
-fn shows_comments(settings: &Settings, person: &str, request: &Option<SeenRequest>) -> bool
-    ensures { result ≡ rows.shows_comments settings.now person.now request.now }
-{
-    match request {
-        Some(request) => request.shows_comments_to(settings, person),
-        None => true,
-    }
-}
 
 /// Where a row stands, if the words of the search are found in it, or among the entries that are
 /// told of it.
@@ -51,7 +27,7 @@ pub fn place_if(
     dated: &(RequestRow, Option<Minute>),
     entries: &[Entry],
 ) -> Option<Place>
-    ensures { result ≡ rows.place_if search.now dated.now entries.now }
+    ensures { result ≡ judged.place_if search.now dated.now entries.now }
 {
     if is_sought(search, &dated.0.subject, entries) {
         Some(place(search.order, dated, entries))
@@ -90,7 +66,7 @@ fn place(order: Order, dated: &(RequestRow, Option<Minute>), entries: &[Entry]) 
 }
 
 /// The moment of the last of the entries, or this one where there is none.
-fn last(filed: Minute, entries: &[Entry]) -> Minute
+pub fn last(filed: Minute, entries: &[Entry]) -> Minute
     ensures { result ≡ last_of filed entries.now }
 {
     let mut last = filed;
@@ -100,47 +76,48 @@ fn last(filed: Minute, entries: &[Entry]) -> Minute
     last
 }
 
-/// A request as it is found, by its facts, the entries that are told and its due moment; none where
-/// it isn't there. `AllocError` where memory is refused.
-pub fn found(
-    settings: &Settings,
-    facts: &Facts,
-    entries: &[Entry],
-    due: Option<Minute>,
-) -> Result<Option<Found>, AllocError>
-    ensures { IfOk result
-        (λ found. found ≡ rows.found_by settings.now facts.now entries.now due) }
+/// The row of that number, of rows in the order of their numbers.
+pub fn row_at(
+    rows: &[(RequestRow, Option<Minute>)],
+    id: u32,
+) -> Option<&(RequestRow, Option<Minute>)>
+    ensures { RowsRise rows.now → option_map (λ d. d.now) result ≡ judged.row_among rows.now id }
 {
-    match &facts.request {
-        Some(request) => {
-            let class = class_of(settings, facts.queue.as_ref(), &request.row.status);
-            let last = last(request.row.created, entries);
-            let copy = request.clone()?;
-            Ok(Some(found_with(class, due, last, copy)))
-        }
-        None => Ok(None),
+    let index = rows.partition_point(|dated| dated.0.id < id);
+    let rest = &rows[index..];
+    numbered_only(rest.first(), id)
+}
+
+/// The row, if it has that number.
+fn numbered_only(
+    dated: Option<&(RequestRow, Option<Minute>)>,
+    id: u32,
+) -> Option<&(RequestRow, Option<Minute>)>
+    ensures { option_map (λ d. d.now) result
+        ≡ judged.numbered_only id (option_map (λ d. d.now) dated.entry) }
+{
+    match dated {
+        Some(dated) if dated.0.id == id => Some(dated),
+        _ => None,
     }
 }
 
-/// A request as it is found, with these besides.
-fn found_with(
-    class: Option<Class>,
-    due: Option<Minute>,
+/// A row with its due moment as it is found, with its requestors and the moment of the last entry
+/// that is told. The queues stand in the order of their names. `AllocError` where memory is refused.
+pub fn found(
+    settings: &Settings,
+    queues: &[QueueRow],
+    dated: &(RequestRow, Option<Minute>),
+    requestors: Texts,
     last: Minute,
-    request: SeenRequest,
-) -> Found
-    ensures { result ≡ find.found_with class due last request.requestors request.row }
+) -> Result<Found, AllocError>
+    ensures { QueuesRise queues.now → IfOk result
+        (λ found. found ≡ judged.found_by settings.now queues.now last requestors dated.now) }
 {
-    let SeenRequest {
-        row,
-        requestors,
-        cc,
-        admin_cc,
-        ..
-    } = request;
-    drop(cc);
-    drop(admin_cc);
-    found_in(class, due, last, requestors, row)
+    let (row, due) = dated;
+    let class = class_of(settings, queue_named(queues, &row.queue), &row.status);
+    let copy = row.clone()?;
+    Ok(found_in(class, *due, last, requestors, copy))
 }
 
 /// A row as it is found, with these besides.

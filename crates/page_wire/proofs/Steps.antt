@@ -1,6 +1,6 @@
 -- From the step of a command to that of a message.
 use Rattle.std.proofs.Common.{◌≡◌, ◌∙◌, ℕ, List, Option, Some, None, Result, Ok, Err, IfOk, OnErr, OnOk}
-use Rattle.std.proofs.Common.{refl, sym, subst, inl, inr}
+use Rattle.std.proofs.Common.{ap, refl, sym, subst, inl, inr}
 use Rattle.std.specs.Prelude.{Vec}
 use Rattle.sqlite.specs.State.{State}
 use Rattle.sqlite.specs.Store.{Ghosts}
@@ -14,17 +14,18 @@ use Rattle.desk_model.specs.declared.answer.Dossier.{Dossier}
 use Rattle.desk_model.specs.declared.command.Command.{Command}
 use Rattle.desk_model.specs.declared.refusal.Refusal.{Refusal}
 use Rattle.desk_model.specs.declared.refusal.Refusal.TheVariants.{Unavailable}
-use Rattle.find_core.specs.declared.loads.QueueLoad.{QueueLoad}
+use Rattle.find_core.specs.Home.{AskOpen}
+use Rattle.find_core.specs.declared.home.Home.{Home}
+use Rattle.find_core.specs.declared.home.HomeSearches.{HomeSearches}
 use Rattle.find_core.specs.declared.search.Findings.{Findings}
 use Rattle.find_core.specs.declared.search.Search.{Search}
-use Rattle.find_form.specs.HomeSearches.{asked_by, owned_by, unowned}
 use Rattle.find_form.specs.Shown.{place_of}
 use Rattle.find_form.specs.declared.shown.Start.{Start}
 use Rattle.service_core.specs.Dossiers.{DossierOn}
 use Rattle.service_core.specs.Filed.{FiledOn}
 use Rattle.service_core.specs.Finding.{FindsOn}
+use Rattle.service_core.specs.Homes.{HomeOn, part_of}
 use Rattle.service_core.specs.Leaves.{LeavesDesk}
-use Rattle.service_core.specs.Loading.{LoadsOn}
 use Rattle.service_core.specs.Seen.{settings_of, tables_of}
 use Rattle.service_core.specs.TableSteps.{OverTables, StepOverTables, ask_by}
 use Rattle.service_core.specs.declared.desk.Desk as service
@@ -43,7 +44,7 @@ use Rattle.page_wire.specs.Next.{follow_up_command, next_text}
 use Rattle.page_wire.specs.Overtaken.{told_before}
 use Rattle.page_wire.specs.Replies.{done_reply, home_reply, refused_reply, request_reply}
 use Rattle.page_wire.specs.Twice.{told_request}
-use Rattle.page_wire.specs.Steps.{DoesOn, Finds, HomeSteps, LookedBy, LooksAt, Tells}
+use Rattle.page_wire.specs.Steps.{DoesOn, Finds, HomeSteps, LookedBy, LooksAt, Tells, home_searches}
 
 -- ---- a command that reads leaves the desk
 
@@ -99,29 +100,44 @@ stays_if s ask outcome (Ok x) old new reads steps = tt
 stays_if s ask outcome (Err e) old new reads steps = reading_stays s ask outcome old new reads steps
 
 -- the first page
-pub homes : {A E : Type 0} (s : Settings) (at : ℕ) (caller : List ℕ)
-    (own asked free : Result Findings Refusal) (loads : Result (List QueueLoad) Refusal)
-    (r : Result (Vec ℕ A) E) (old one two three new : State)
-    → FindsOn s at caller (owned_by caller) 20 None own old one
-    → FindsOn s at caller (asked_by caller) 20 None asked one two
-    → FindsOn s at caller unowned 20 None free two three → LoadsOn s at caller loads three new
-    → LeavesTables one two → LeavesTables two three → LeavesTables three new
-    → IfOk r (λ out. out.items ≡ home_reply s caller at own asked loads free)
+pub homes : {A E : Type 0} (s : Settings) (at : ℕ) (caller : List ℕ) (told : Result Home Refusal)
+    (r : Result (Vec ℕ A) E) (old new : State)
+    → HomeOn s at caller (home_searches caller) 20 told old new
+    → IfOk r (λ out. out.items ≡ home_reply s caller at (part_of (λ h. h.own) told)
+    (part_of (λ h. h.asked) told) (part_of (λ h. h.loads) told) (part_of (λ h. h.free) told))
     → IfOk r (λ out. OverTables s (λ desk after. HomeSteps s at caller desk out.items after) old new)
-homes s at caller own asked free loads (Ok out) old one two three new owns asks frees tells second third
-    fourth told =
-    λ desk is stand clean. let after_three = fourth.clean clean in
-    let after_two = third.clean after_three in
-    let first = owns desk is stand (second.clean after_two) in
-    let next = asks desk is first.1 after_two in
-    let then = frees desk is next.1 after_three in
-    let last = tells desk is then.1 clean in (
+homes s at caller told (Ok out) old new tells shown =
+    λ desk is stand clean. let own = tells.own desk is stand clean in
+    let asked = tells.asked desk is stand clean in
+    let free = tells.free desk is stand clean in
+    let loads = tells.loads desk is stand clean in (
       desk,
-      ((own, asked, free, loads, first.0, next.0, then.0, last.0, (told, refl)), is),
-      last.1,
+      (
+        (
+          part_of (λ h. h.own) told,
+          part_of (λ h. h.asked) told,
+          part_of (λ h. h.free) told,
+          part_of (λ h. h.loads) told,
+          own.0,
+          asked.0,
+          free.0,
+          loads.0,
+          (shown, refl),
+        ),
+        is,
+      ),
+      own.1,
     )
-homes s at caller own asked free loads (Err e) old one two three new owns asks frees tells second third
-    fourth told = tt
+homes s at caller told (Err e) old new tells shown = tt
+
+-- each search of the first page is for what is open
+pub ask_open : (caller : List ℕ) (searches : HomeSearches) → searches ≡ home_searches caller
+    → AskOpen searches
+ask_open caller searches same = record {
+  own = ap (λ (s : HomeSearches). s.own.status) same;
+  asked = ap (λ (s : HomeSearches). s.asked.status) same;
+  free = ap (λ (s : HomeSearches). s.free.status) same;
+}
 
 -- the page of what is found
 pub finds : {A E : Type 0} (s : Settings) (at : ℕ) (caller : List ℕ) (start : Start)

@@ -15,6 +15,7 @@ use Rattle.desk_model.specs.declared.refusal.Refusal.{Refusal}
 use Rattle.desk_model.specs.declared.refusal.Refusal.TheVariants.{Unavailable}
 use Rattle.find_core.specs.Find.{outcome_of}
 use Rattle.find_core.specs.Loads.{loads_outcome}
+use Rattle.find_core.specs.declared.home.HomeSearches.{HomeSearches}
 use Rattle.find_core.specs.declared.loads.QueueLoad.{QueueLoad}
 use Rattle.find_core.specs.declared.search.Findings.{Findings}
 use Rattle.find_core.specs.declared.search.Place.{Place}
@@ -41,12 +42,10 @@ use Rattle.page_routes.specs.declared.visit.PageRequest.TheVariants as visit
 use Rattle.page_routes.specs.Places.{is_page_path, path_in}
 use Rattle.page_routes.specs.Visits.{visit_of}
 use Rattle.service_core.specs.Dossiers.{IsDossier}
-use Rattle.service_core.specs.Finding.{FindsOn}
 use Rattle.service_core.specs.Leaves.{LeavesDesk}
 use Rattle.service_core.specs.Seen.{settings_of, tables_of}
 use Rattle.service_core.specs.TableSteps.{IsStep, OverTables, ask_by}
 use Rattle.service_core.specs.declared.desk.Desk as service
-use Rattle.store_tables.specs.Calls.{LeavesTables}
 use Rattle.wire_core.specs.Replies.{TellsFault, is_head}
 use Rattle.wire_core.specs.Runs.{Sent}
 use Rattle.wire_core.specs.Steps.{LeavesOut, MessageSteps, StaysOn}
@@ -90,6 +89,11 @@ IsFound settings at caller search limit after result desk =
 abbrev pub AreLoads : Settings → ℕ → List ℕ → Result (List QueueLoad) Refusal → Desk → Type 0
 AreLoads settings at caller result desk =
     result ≢ Err Unavailable → result ≡ loads_outcome settings at caller desk
+
+-- the searches of the first page
+abbrev pub home_searches : List ℕ → HomeSearches
+home_searches caller =
+    record { own = owned_by caller; asked = asked_by caller; free = unowned }
 
 -- the first page: at most 20 rows of each of its lists
 abbrev pub HomeSteps : Settings → ℕ → List ℕ → Desk → List ℕ → Desk → Type 0
@@ -231,15 +235,6 @@ abbrev pub Looked : {S A E : Type 0} → (g : Ghosts S) → service.Desk S g →
     → List ℕ → routes.Page → Result (Vec ℕ A) E → Type 0
 Looked g old new at caller page result =
     LookedBy g old new (LookSteps (settings_of g old) at caller page) result
-
--- how a search for a page ends, and the tables stay
-pub record SearchRead {S : Type 0} (g : Ghosts S) (old new : service.Desk S g) (at : ℕ)
-    (caller : List ℕ) (search : Search) (limit : ℕ) (after : Option Place)
-    (result : Result Findings Refusal) : Type 0 where
-  pub found : FindsOn (settings_of g old) at caller search limit after result (tables_of g old)
-      (tables_of g new)
-  pub kept : LeavesTables (tables_of g old) (tables_of g new)
-  pub same : settings_of g new ≡ settings_of g old
 
 abbrev pub RequestPageStepsOn : Bool → Settings → ℕ → Request → List ℕ → State → State → Type 0
 RequestPageStepsOn https settings at request bytes =

@@ -4,18 +4,19 @@ ghost use Rattle.std.specs.Option.{option_map};
 ghost use Rattle.page_core.specs.Page.{page_bytes};
 ghost use Rattle.settings_core.specs.Settings.{levels_of, lifecycles_of};
 ghost use Rattle.desk_pages.specs.Home.{home_page};
+ghost use Rattle.service_core.specs.Homes.{part_of};
 ghost use Rattle.page_wire.specs.Replies as form;
 
 use crate::replies::{refused, with_page};
 use desk_core::{Answer, Dossier, QueueRow, Refusal};
 use desk_pages::{find_fault_page, find_page, home_page, new_page, request_page, workload_page};
-use find_core::{Findings, Order, QueueLoad};
+use find_core::{Findings, Home, Order};
 use find_form::{FindFault, FindForm, Start, found_page};
 use hours_core::Minute;
 use lifecycle_core::Lifecycle;
 use settings_core::{Named, Settings};
 use std::alloc::{AllocError, Global};
-use text_core::{Sequence, Text};
+use text_core::Text;
 
 /// What came of a command.
 type Outcome = Result<Answer, Refusal>;
@@ -27,44 +28,27 @@ fn no_answer(alloc: Global, caller: &str, moment: Minute) -> Result<Vec<u8>, All
     refused(alloc, caller, moment, &Refusal::Unavailable)
 }
 
-/// What is open of what the caller owns, asked for, and may take.
+/// What was found.
 type Found = Result<Findings, Refusal>;
 
-/// What each queue has.
-type Loads = Result<Sequence<QueueLoad>, Refusal>;
-
-/// The first page, of what was found, or of the first refusal.
+/// The first page, or the refusal.
 pub(crate) fn home_reply(
     alloc: Global,
     settings: &Settings,
     caller: &str,
     moment: Minute,
-    own: &Found,
-    asked: &Found,
-    loads: &Loads,
-    free: &Found,
+    told: &Result<Home, Refusal>,
 ) -> Result<Vec<u8>, AllocError>
-    ensures { IfOk result (λ out. out.items ≡ form.home_reply settings.now caller.now moment own.now
-        asked.now loads.now free.now) }
+    ensures { IfOk result (λ out. out.items ≡ form.home_reply settings.now caller.now moment
+        (part_of (λ h. h.own) told.now) (part_of (λ h. h.asked) told.now)
+        (part_of (λ h. h.loads) told.now) (part_of (λ h. h.free) told.now)) }
 {
-    match (own, asked, loads, free) {
-        (Ok(own), Ok(asked), Ok(loads), Ok(free)) => {
-            let page = home(
-                alloc,
-                settings,
-                caller,
-                moment,
-                own,
-                asked,
-                loads.as_slice(),
-                free,
-            )?;
+    match told {
+        Ok(told) => {
+            let page = home(alloc, settings, caller, moment, told)?;
             with_page(alloc, 200, page)
         }
-        (Err(refusal), _, _, _) => refused(alloc, caller, moment, refusal),
-        (_, Err(refusal), _, _) => refused(alloc, caller, moment, refusal),
-        (_, _, Err(refusal), _) => refused(alloc, caller, moment, refusal),
-        (_, _, _, Err(refusal)) => refused(alloc, caller, moment, refusal),
+        Err(refusal) => refused(alloc, caller, moment, refusal),
     }
 }
 
@@ -73,18 +57,17 @@ fn home(
     settings: &Settings,
     caller: &str,
     moment: Minute,
-    own: &Findings,
-    asked: &Findings,
-    loads: &[QueueLoad],
-    free: &Findings,
+    told: &Home,
 ) -> Result<Vec<u8>, AllocError>
-    ensures { IfOk result (λ page. page.items ≡ page_bytes (home_page caller.now moment own.now
-        asked.now loads.now free.now (form.names_of (lifecycles_of settings.now))
+    ensures { IfOk result (λ page. page.items ≡ page_bytes (home_page caller.now moment told.now.own
+        told.now.asked told.now.loads told.now.free (form.names_of (lifecycles_of settings.now))
         (form.names_of (levels_of settings.now)))) }
 {
     let lifecycles = names_of(alloc, settings.lifecycles())?;
     let levels = names_of(alloc, settings.levels())?;
     let (lifecycles, levels) = (lifecycles.as_slice(), levels.as_slice());
+    let (own, asked, free) = (&told.own, &told.asked, &told.free);
+    let loads = told.loads.as_slice();
     home_page(
         alloc, caller, moment, own, asked, loads, free, lifecycles, levels,
     )

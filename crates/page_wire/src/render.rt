@@ -1,5 +1,5 @@
 //! What a page asks of the desk, and its reply.
-ghost use Rattle.std.specs.Prelude.{◌≡◌, [], None, IfOk};
+ghost use Rattle.std.specs.Prelude.{◌≡◌, [], IfOk};
 ghost use Rattle.service_core.specs.Seen.{settings_of};
 ghost use Rattle.find_form.specs.Form.{filled};
 ghost use Rattle.find_form.specs.Shown.{is_back};
@@ -11,15 +11,15 @@ ghost use Rattle.page_wire.specs.Steps.{
   Looked,
   LookedBy,
   SearchSteps,
-  SearchRead,
   SearchFormSteps,
+  home_searches,
 };
 
 use crate::pages::{
     find_fault_reply, find_reply, home_reply, new_reply, request_reply, workload_reply,
 };
-use desk_core::{Command, Refusal};
-use find_core::{Findings, Search};
+use desk_core::Command;
+use find_core::{HomeSearches, Search};
 use find_form::{
     FindFault, FindForm, PAGE_ROWS, Start, asked_by, empty_form, form_of, owned_by, search_of,
     unowned,
@@ -63,38 +63,26 @@ fn home<S: Backend>(
 ) -> Result<Vec<u8>, AllocError>
     ensures { Looked S.Store desk.old desk.new moment caller.now Page.Home result }
 {
-    let own = first_of(alloc, owned_by(alloc, caller), caller, moment, desk);
-    let asked = first_of(alloc, asked_by(alloc, caller), caller, moment, desk);
-    let free = first_of(alloc, unowned(alloc), caller, moment, desk);
-    let loads = desk.queue_loads(alloc, moment.get(), caller);
-    let settings = desk.settings();
-    let reply = home_reply(alloc, settings, caller, moment, &own, &asked, &loads, &free);
-    drop(loads);
-    drop(free);
-    drop(asked);
-    drop(own);
-    reply
+    match home_searches(alloc, caller) {
+        Ok(searches) => {
+            let told = desk.home(alloc, moment.get(), caller, &searches, HOME_ROWS);
+            drop(searches);
+            let reply = home_reply(alloc, desk.settings(), caller, moment, &told);
+            drop(told);
+            reply
+        }
+        Err(refused) => Err(refused),
+    }
 }
 
-/// The first rows of what a search finds, if there was memory for the search.
-fn first_of<S: Backend>(
-    alloc: Global,
-    search: Result<Search, AllocError>,
-    caller: &str,
-    moment: Minute,
-    desk: &mut Desk<S>,
-) -> Result<Findings, Refusal>
-    ensures { (sought : Search) → IfOk search (λ made. made ≡ sought)
-        → SearchRead S.Store desk.old desk.new moment caller.now sought 20 None result }
+/// The searches of the first page, each for what is open.
+fn home_searches(alloc: Global, caller: &str) -> Result<HomeSearches, AllocError>
+    ensures { IfOk result (λ searches. searches ≡ home_searches caller.now) }
 {
-    match search {
-        Ok(search) => {
-            let found = desk.find(alloc, moment.get(), caller, &search, HOME_ROWS, None);
-            drop(search);
-            found
-        }
-        Err(_) => Err(Refusal::Unavailable),
-    }
+    let own = owned_by(alloc, caller)?;
+    let asked = asked_by(alloc, caller)?;
+    let free = unowned(alloc)?;
+    Ok(HomeSearches { own, asked, free })
 }
 
 /// The page of a queue: the search for what is open in it.

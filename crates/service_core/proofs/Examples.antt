@@ -1,6 +1,7 @@
 -- Examples of the definitions: the ends of links by their kind, which entries are told, which statuses
--- the settings know, and which request was filed already.
+-- the settings know, which request was filed already, and parts of the first page.
 use Rattle.std.specs.Prelude.{◌≡◌, refl, true, false, ℕ, List, [], ◌∷◌, ◌++◌, Some, None, codes}
+use Rattle.std.specs.Prelude.{Ok, Err}
 use Rattle.settings_core.specs.Settings.{lifecycle_named}
 use Rattle.settings_core.specs.declared.settings.Settings.{Settings}
 use Rattle.desk_model.specs.Known.{knows_status}
@@ -9,6 +10,7 @@ use Rattle.desk_model.specs.Rights.{may_show}
 use Rattle.desk_model.specs.declared.command.Command.{Command}
 use Rattle.desk_model.specs.declared.command.Command.TheVariants.{Create, Take}
 use Rattle.desk_model.specs.declared.facts.SeenRequest.{SeenRequest}
+use Rattle.desk_model.specs.declared.refusal.Refusal.TheVariants.{BadMoment}
 use Rattle.desk_model.specs.declared.rows.Entry.{Entry}
 use Rattle.desk_model.specs.declared.rows.EntryKind.{EntryKind}
 use Rattle.desk_model.specs.declared.rows.EntryKind.TheVariants.{Comment, Reply, Status}
@@ -18,8 +20,11 @@ use Rattle.desk_model.specs.declared.rows.LinkRow.{LinkRow}
 use Rattle.desk_model.specs.declared.rows.QueueRow.{QueueRow}
 use Rattle.desk_model.specs.declared.rows.RequestRow.{RequestRow}
 use Rattle.desk_model.specs.declared.rows.Turn.TheVariants.{Desk}
+use Rattle.find_core.specs.declared.home.Home.{Home}
+use Rattle.find_core.specs.declared.search.Findings.{Findings}
 use Rattle.service_core.specs.Attaching.{of_queues}
 use Rattle.service_core.specs.Filed.{are_requestors, is_as, is_filed_with, is_filer, is_row, numbers_down}
+use Rattle.service_core.specs.Homes.{part_of}
 use Rattle.service_core.specs.Shown.{is_told, numbers_at}
 use Rattle.service_core.specs.declared.links.End.TheVariants.{Source, Target}
 
@@ -208,3 +213,23 @@ none_are_there = refl
 
 none_are_asked_for : numbers_down 3 0 ≡ []
 none_are_asked_for = refl
+
+-- ---- the first page
+
+abbrev nothing_found : Findings
+nothing_found = record { rows = []; count = 0 }
+
+abbrev empty_home : Home
+empty_home =
+    record {
+      own = record nothing_found { count = 1 };
+      asked = nothing_found;
+      free = nothing_found;
+      loads = [];
+    }
+
+part_of_a_page : part_of (λ h. h.own) (Ok empty_home) ≡ Ok (record { rows = []; count = 1 })
+part_of_a_page = refl
+
+part_of_a_refusal : part_of (λ h. h.loads) (Err BadMoment) ≡ Err BadMoment
+part_of_a_refusal = refl

@@ -20,4 +20,5 @@ pub mod SightLemmas
 pub mod FoundAlike
 pub mod FiledLemmas
 pub mod FindLemmas
+mod HomeLemmas
 pub mod LoadsAlike

@@ -6,6 +6,7 @@ pub mod Dossiers
 pub mod Fault
 pub mod Filed
 pub mod Finding
+pub mod Homes
 pub mod Leaves
 pub mod Loading
 pub mod QueueVisibility

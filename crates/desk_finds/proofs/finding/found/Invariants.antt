@@ -1,8 +1,9 @@
--- the requests at the places so far, as they are found
+-- the rows at the places so far, as they are found
 use Rattle.std.proofs.Common.{◌≡◌, Some, map, take}
 use Rattle.sqlite.specs.State.{HasCleanDisk}
 use Rattle.desk_model.specs.Desk.{Desk}
 use Rattle.desk_model.specs.IsDesk.{IsDesk}
+use Rattle.report_core.specs.Rows.{QueuesRise, RowsRise, WatchesRise}
 use Rattle.store_tables.specs.Calls.{LeavesTables}
 use Rattle.store_tables.specs.Stands.{Represents}
 use Rattle.store_core.specs.Seen.{state_of}
@@ -14,8 +15,9 @@ invariant-loop-placed g l =
     let old = state_of g.S.Store l.fn.store in
     let now = state_of g.S.Store l.store in record {
       told :
-          (desk : Desk) → IsDesk desk → Represents desk old → HasCleanDisk now
-          → map Some l.rows.items
-          ≡ map (found_of l.settings l.caller desk) (take l.placed-index l.page);
+          WatchesRise l.own → QueuesRise l.queues → RowsRise l.rows
+          → (desk : Desk) → IsDesk desk → Represents desk old → HasCleanDisk now
+          → map Some l.told.items ≡ map (found_of l.call.settings.now l.call.caller.now l.own l.queues
+          l.rows desk) (take l.placed-index l.page);
       kept : LeavesTables old now;
     }

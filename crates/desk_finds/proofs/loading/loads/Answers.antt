@@ -3,7 +3,9 @@ use Rattle.std.proofs.Common.{◌∙◌, ap, subst, sym}
 use Rattle.std.specs.Prelude.{map}
 use Rattle.report_core.specs.Rows.{RowsRise}
 use Rattle.find_core.specs.Loads.{load_of}
-use Rattle.desk_finds.specs.Found.{asked_on}
+use Rattle.store_tables.specs.Contents.{contents_of}
+use Rattle.store_tables.proofs.Spared.{stands}
+use Rattle.store_core.specs.Due.{due_of_row}
 use Rattle.desk_finds.proofs.LoadLemmas.{loads_are}
 use Rattle.desk_finds.proofs.loading.loads.Goals as goal
 
@@ -13,8 +15,14 @@ returns-clause-told g c rise desk is stand clean =
     let at = c.args.call.at in
     let caller = c.args.call.caller.now in
     let queues = c.args.queues.items in
+    let due = due_of_row s desk in
+    let first = stands c.watches_of.ensures.kept (contents_of due desk) stand in
+    let second = stands c.queues.ensures.kept (contents_of due desk) first in
+    let clean-second = c.open_rows.ensures.kept.clean clean in
+    let clean-first = c.queues.ensures.kept.clean clean-second in
     loads_are s at caller desk is queues c.in_ok-rows.rows.items c.in_ok-told.told
-    (c.in_ok-rows.ensures.told desk is stand clean
-    ∙ ap (λ search. asked_on s at caller search desk) c.open_ones-search.ensures)
-    (λ up. c.in_ok-told.ensures rise (subst RowsRise (sym c.as_slice.ensures.value) up)
-    ∙ ap (λ rows. map (load_of at rows) queues) c.as_slice.ensures.value)
+    (c.in_ok-rows.ensures.told desk is second clean
+    (c.as_slice.ensures.value ∙ c.in_ok-own.ensures.listed desk is (due, stand) clean-first)
+    (c.as_slice-2.ensures.value ∙ c.in_ok-all.ensures.listed desk is (due, first) clean-second))
+    (λ up. c.in_ok-told.ensures rise (subst RowsRise (sym c.as_slice-3.ensures.value) up)
+    ∙ ap (λ rows. map (load_of at rows) queues) c.as_slice-3.ensures.value)

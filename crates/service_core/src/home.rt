@@ -1,0 +1,67 @@
+//! What the first page tells.
+ghost use Rattle.std.specs.Prelude.{◌≡◌, true, IfErr};
+ghost use Rattle.find_core.specs.Home.{AskOpen};
+ghost use Rattle.store_tables.specs.Calls.{LeavesTables};
+ghost use Rattle.store_core.specs.Seen.{state_of};
+ghost use Rattle.service_core.specs.Homes.{HomeOn};
+ghost use Rattle.service_core.specs.Seen.{settings_of, tables_of};
+
+use crate::desk::Desk;
+use desk_core::{Call, Command, Refusal, refusal_without_facts};
+use find_core::{Home, HomeSearches};
+use std::alloc::Global;
+use store_core::{Backend, Store};
+
+impl<S: Backend> Desk<S> {
+    /// What the searches of the first page find, at most `limit` rows each, and what each queue has
+    /// open: as `find` and `queue_loads` tell it, by one look at all requests. Each search asks for
+    /// what is open. The moment is in minutes since 1970-01-01 00:00 UTC.
+    ///
+    /// `UnknownCaller` or `BadMoment` comes of what every desk refuses. `Unavailable` may come in
+    /// place of any answer, where memory or the store refused. The tables stay as they are,
+    /// whatever rows they have.
+    pub fn home(
+        &mut self,
+        alloc: Global,
+        at: u32,
+        caller: &str,
+        searches: &HomeSearches,
+        limit: u32,
+    ) -> Result<Home, Refusal>
+        requires { AskOpen searches.now }
+        ensures told { HomeOn (settings_of S.Store self.old) at caller.now searches.now limit result
+            (tables_of S.Store self.old) (tables_of S.Store self.new) }
+        ensures kept { LeavesTables (tables_of S.Store self.old) (tables_of S.Store self.new) }
+        ensures same { settings_of S.Store self.new ≡ settings_of S.Store self.old }
+    {
+        let overdue = Command::Overdue;
+        let call = Call {
+            settings: &self.settings,
+            at,
+            caller,
+        };
+        look(alloc, &mut self.store, call, &overdue, searches, limit)
+    }
+}
+
+/// The same. What every desk refuses, as it does to the list of what is late, costs no look.
+#[tactic(auto, using(store_tables::proofs::Spared::unread))]
+fn look<S: Backend>(
+    alloc: Global,
+    store: &mut Store<S>,
+    call: Call<'_>,
+    overdue: &Command,
+    searches: &HomeSearches,
+    limit: u32,
+) -> Result<Home, Refusal>
+    requires same { overdue.now ≡ Command.Overdue }
+    requires opens { AskOpen searches.now }
+    ensures told { HomeOn call.entry.settings.now call.entry.at call.entry.caller.now searches.now
+        limit result (state_of S.Store store.old) (state_of S.Store store.new) }
+    ensures kept { LeavesTables (state_of S.Store store.old) (state_of S.Store store.new) }
+{
+    match refusal_without_facts(call.settings, call.at, call.caller, overdue) {
+        Some(refusal) => Err(refusal),
+        None => desk_finds::home(alloc, store, call, searches, limit),
+    }
+}
