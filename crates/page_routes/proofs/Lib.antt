@@ -1,3 +1,4 @@
+mod AskLaws
 mod Examples
 mod PathLaws
 mod WayLaws
