@@ -1,4 +1,4 @@
-mod AskLaws
+pub mod AskLaws
 mod Examples
 mod PathLaws
 mod WayLaws
