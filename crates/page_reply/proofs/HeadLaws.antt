@@ -1,18 +1,16 @@
 -- The head of a reply is read back.
-use Rattle.std.proofs.Common.{◌≡◌, ◌≢◌, ◌∙◌, ◌⊎◌, inl, inr, ℕ, ◌+◌, ◌-◌, ◌*◌, ◌<◌, ◌≤◌, ◌^◌, ◌==◌, nat_le, Bool, true}
-use Rattle.std.proofs.Common.{false, not, ◌&&◌, List, [], ◌∷◌, ◌++◌, length, fold, codes, decimal, refl, sym, ap, arith}
-use Rattle.std.proofs.Common.{append_assoc, append-nil, Option, Some, None, subst}
+use Rattle.std.proofs.Common.{◌≡◌, ◌∙◌, inl, inr, ℕ, ◌+◌, ◌/◌, ◌%◌, ◌<◌, ◌==◌, Bool, true, false, not}
+use Rattle.std.proofs.Common.{◌&&◌, if◌then◌else◌, List, [], ◌∷◌, ◌++◌, length, codes, decimal, refl, sym}
+use Rattle.std.proofs.Common.{ap, arith, append_assoc, append-nil, lit<, Option, Some, None, subst, suc, zero}
+use Rattle.std.proofs.Math.Nat.{mod-lt}
 use Rattle.std.specs.Prelude.{IfSome}
-use Rattle.std.specs.Fmt.{digits}
+use Rattle.std.specs.Fmt.{digit_glyph, digits, digits_onto}
 use Rattle.std.specs.List.{flat_map, list_all, list_any}
-use Rattle.std.proofs.lemmas.Bool.{and_from, and_parts, eqb-true, le-leb, leb-true, or_cases}
+use Rattle.std.proofs.lemmas.Bool.{and_from, and_parts, eqb-true, lt-ltb, or_cases}
 use Rattle.std.proofs.lemmas.Bool.Decides.{nat_tests}
-use Rattle.std.proofs.lemmas.Fmt.{decimal_nonempty, digits_decimal}
 use Rattle.std.proofs.lemmas.Grind.{flat_map-append}
 use Rattle.std.proofs.lemmas.List.Folds.{list_all-append}
-use Rattle.std.proofs.lemmas.Str.Parse.{FoldsDigits, IsDigitsTest, IsNumeralModel, numerals_by_fold}
 use Rattle.text_core.specs.Form.{is_digit}
-use Rattle.browser_core.specs.Cookie.{cookie_name}
 use Rattle.message_core.specs.ReplyHead.{content_length_line, content_type_line, head_start, last_line}
 use Rattle.message_core.specs.ReplyHead.{status_line}
 use Rattle.page_reply.specs.Laws.{HeadsReadAsStated, HeadsReadOnce, IsTellable, ReadsAs, allow_lines}
@@ -188,41 +186,46 @@ bytes_are reply =
 
 -- ---- each is one line
 
-all_both : {A : Type 0} (p : A → Bool) (xs ys : List A) → list_all p xs ≡ true → list_all p ys ≡ true
+pub all_both : {A : Type 0} (p : A → Bool) (xs ys : List A) → list_all p xs ≡ true → list_all p ys ≡ true
     → list_all p (xs ++ ys) ≡ true
 all_both p xs ys one two = list_all-append p xs ys ∙ and_from (list_all p xs) (list_all p ys) one two
 
-each_so : {A : Type 0} (p q : A → Bool) → ((x : A) → p x ≡ true → q x ≡ true) → (xs : List A)
+pub each_so : {A : Type 0} (p q : A → Bool) → ((x : A) → p x ≡ true → q x ≡ true) → (xs : List A)
     → list_all p xs ≡ true → list_all q xs ≡ true
 each_so p q so [] all = refl
 each_so p q so (x ∷ xs) all =
     let parts = and_parts (p x) (list_all p xs) all in
     and_from (q x) (list_all q xs) (so x parts.0) (each_so p q so xs parts.1)
 
-abbrev AreDigits : List ℕ → Type 0
-AreDigits ds = list_all is_digit ds ≡ true
+by_glyph : (d : ℕ) → d < 10 → is_digit (digit_glyph false d) ≡ true
+by_glyph d small = rw (lt-ltb d 10 small) (grind (arith, nat_tests, small))
 
-are_digits : IsDigitsTest AreDigits
-are_digits = record {
-  empty = refl;
-  parts = λ c cs e. let k = and_parts (is_digit c) (list_all is_digit cs) e in
-      let m = and_parts (nat_le 48 c) (nat_le c 57) k.0 in
-      ((leb-true 48 c m.0, leb-true c 57 m.1), k.1);
-  more = λ c cs k e. and_from (is_digit c) (list_all is_digit cs)
-      (and_from (nat_le 48 c) (nat_le c 57) (le-leb 48 c k.0) (le-leb c 57 k.1)) e;
-}
+with_glyph : (n : ℕ) (acc : List ℕ) → list_all is_digit acc ≡ true
+    → list_all is_digit (digit_glyph false (n % 10) ∷ acc) ≡ true
+with_glyph n acc are =
+    and_from (is_digit (digit_glyph false (n % 10))) (list_all is_digit acc)
+    (by_glyph (n % 10) (mod-lt n (lit< tt))) are
 
-after : ℕ → List ℕ → ℕ
-after n ds = fold (λ m b. m * 10 + (b - 48)) n ds
+either_digits : (b : Bool) (one other : List ℕ) → list_all is_digit one ≡ true
+    → list_all is_digit other ≡ true → list_all is_digit (if b then one else other) ≡ true
+either_digits true one other left right = left
+either_digits false one other left right = right
 
-folds : FoldsDigits after
-unfolding after
-folds = record { empty = λ n. refl; more = λ n c cs k. refl }
+onto_digits : (k n : ℕ) (acc : List ℕ) → list_all is_digit acc ≡ true
+    → list_all is_digit (digits_onto k 10 false n acc) ≡ true
+onto_digits zero n acc are = are
+onto_digits (suc k) n acc are =
+    let more = digit_glyph false (n % 10) ∷ acc in
+    either_digits (n / 10 == 0) more (digits_onto k 10 false (n / 10) more) (with_glyph n acc are)
+    (onto_digits k (n / 10) more (with_glyph n acc are))
 
-decimal_printed : (n : ℕ) → n < 2 ^ 64 → list_all is_printed (decimal n) ≡ true
-decimal_printed n small =
-    each_so is_digit is_printed (λ b is. grind (arith, nat_tests, is)) (decimal n)
-    (digits_decimal (numerals_by_fold AreDigits are_digits after folds) n small)
+pub decimal_digits : (n : ℕ) → list_all is_digit (decimal n) ≡ true
+unfolding digits
+decimal_digits n = onto_digits 64 n [] refl
+
+decimal_printed : (n : ℕ) → list_all is_printed (decimal n) ≡ true
+decimal_printed n =
+    each_so is_digit is_printed (λ b is. grind (arith, nat_tests, is)) (decimal n) (decimal_digits n)
 
 abbrev AreStatuses : List ℕ → Type 0
 AreStatuses [] = Unit {0}
@@ -241,12 +244,12 @@ each_status : AreStatuses page_codes
 unfolding digits status_line
 each_status = (refl, (refl, (refl, (refl, (refl, (refl, (refl, (refl, tt))))))))
 
-first_are : (status bytes : ℕ) → is_page_code status ≡ true → bytes < 2 ^ 64
+first_are : (status bytes : ℕ) → is_page_code status ≡ true
     → list_all is_line (first_lines status bytes) ≡ true
 unfolding page_kind
-first_are status bytes code small =
+first_are status bytes code =
     and_from (is_line (status_line status)) _ (one_status page_codes each_status status code)
-    (and_from (list_all is_printed (decimal bytes)) true (decimal_printed bytes small) refl)
+    (and_from (list_all is_printed (decimal bytes)) true (decimal_printed bytes) refl)
 
 value_printed : (text : List ℕ) → is_value text ≡ true → list_all is_printed text ≡ true
 value_printed text is = each_so _ is_printed (λ b both. (and_parts (is_printed b) _ both).0) text is
@@ -296,7 +299,7 @@ heads_read_as_stated reply tellable =
     record {
       are_lines =
           all_both is_line (first_lines reply.status (length reply.page)) (cookie ++ (place ++ (allow ++ same_lines)))
-          (first_are reply.status (length reply.page) tellable.code tellable.short)
+          (first_are reply.status (length reply.page) tellable.code)
           (all_both is_line cookie (place ++ (allow ++ same_lines)) (cookie_are reply.cookie tellable.cookie)
           (all_both is_line place (allow ++ same_lines) (location_are reply.location tellable.place)
           (all_both is_line allow same_lines (allow_are reply.allow) same_are)));

@@ -1,5 +1,5 @@
 -- What the head of a reply reads as: just its stated lines, whatever is told by it.
-use Rattle.std.specs.Prelude.{◌≡◌, ◌<◌, ◌^◌, ◌==◌, ℕ, nat_le, Bool, true, false, not, ◌&&◌, List, [], ◌∷◌, ◌++◌}
+use Rattle.std.specs.Prelude.{◌≡◌, ◌==◌, ℕ, nat_le, Bool, true, false, not, ◌&&◌, List, [], ◌∷◌, ◌++◌}
 use Rattle.std.specs.Prelude.{length, codes, decimal, Option, Some, None, IfSome}
 use Rattle.std.specs.List.{list_all, list_any}
 use Rattle.message_core.specs.ReplyHead.{status_line}
@@ -95,12 +95,11 @@ cookie_text (Session https text) = Some text
 cookie_text (Stay https text) = Some text
 cookie_text (Forget https) = None
 
--- a code of the pages, a cookie that is one value, a place of one line, and a length that a number tells
+-- a code of the pages, a cookie that is one value, and a place of one line
 pub record IsTellable (reply : Given) : Type 0 where
   pub code : is_page_code reply.status ≡ true
   pub cookie : IfSome (cookie_text reply.cookie) (λ text. is_value text ≡ true)
   pub place : IfSome reply.location (λ path. list_all is_printed path ≡ true)
-  pub short : length reply.page < 2 ^ 64
 
 abbrev pub HeadsReadAsStated : Type 0
 HeadsReadAsStated = (reply : Given) → IsTellable reply

@@ -3,7 +3,7 @@ use Rattle.std.proofs.Common.{◌≡◌, ◌∙◌, ℕ, Bool, true, false, List
 use Rattle.std.proofs.Common.{if◌then◌else◌, ap, codes, refl, subst, sym, unwrap_or}
 use Rattle.std.proofs.lemmas.Bool.{and_parts}
 use Rattle.std.proofs.lemmas.Slice.Eq.{bytes_eq-Decides}
-use Rattle.std.specs.Prelude.{⊤, IfOk, is_some, length, ◌==◌, ◌&&◌}
+use Rattle.std.specs.Prelude.{IfOk, is_some, length, ◌==◌, ◌&&◌}
 use Rattle.std.specs.Str.{bytes_eq}
 use Rattle.hours_core.specs.Moment.{is_due_moment}
 use Rattle.desk_model.specs.declared.command.Command.{Command}
@@ -43,14 +43,14 @@ given : {T : Type 0} (b : Bool) (o : Option T) (x : T) → (if b then o else Non
 given true o x is = refl
 given false o x is = absurd (cc)
 
-filled_same : (value : Option (List ℕ)) (text : List ℕ) → filled value ≡ Some text → value ≡ Some text
-filled_same None text is = is
-filled_same (Some value) text is = by_length (length value == 0) value text is
-
 by_length : (b : Bool) (value text : List ℕ) → (if b then None else Some value) ≡ Some text
     → Some value ≡ Some text
 by_length true value text is = absurd (cc)
 by_length false value text is = is
+
+filled_same : (value : Option (List ℕ)) (text : List ℕ) → filled value ≡ Some text → value ≡ Some text
+filled_same None text is = is
+filled_same (Some value) text is = by_length (length value == 0) value text is
 
 told_once : (form : CommandForm) (b : PathParameter) (fields : List Field) (c : Command)
     → command_in form b fields ≡ Some c → (are_once fields ≡ true) × (tells_seen form fields ≡ true)
@@ -98,7 +98,7 @@ module _ (https : Bool) (s : Settings) (at : ℕ) (message : Message) (lines : L
         record {
           method = post;
           own = own;
-          caller = who;
+          cookie = who;
           page = (fields, body, (said.0, told, said.1));
         }
 
@@ -249,9 +249,11 @@ at_carries caller place fields sent is = absurd (cc)
 
 asked_carries : (place : Place) (caller : Option (List ℕ)) (fields : List Field) (sent : SubmittedForm)
     → typed_at place fields ≡ Some sent → Carries sent (asked_by place caller (Some fields))
-asked_carries place None fields sent is =
-    (visits.Unknown (nexts.Form sent) false,
-    ap (λ o. Ok (visits.Unknown (next_by (form_of place) o) false)) is, refl)
+asked_carries place None fields sent is = (
+  visits.Unknown (nexts.Form sent) false,
+  ap (λ o. Ok (visits.Unknown (next_by (form_of place) o) false)) is,
+  refl,
+)
 asked_carries place (Some caller) fields sent is = at_carries caller place fields sent is
 
 chosen_carries : (b : Bool) (one other : Answer) (sent : SubmittedForm) → b ≡ true → Carries sent one

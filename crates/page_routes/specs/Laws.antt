@@ -59,7 +59,7 @@ pub record IsAskedBy (https : Bool) (settings : Settings) (at : ℕ) (message : 
     (caller : List ℕ) (sent : SubmittedForm) : Type 0 where
   pub method : method_named message.method ≡ Some Post
   pub own : is_own lines ≡ true
-  pub caller : caller_of https settings at lines ≡ Some caller
+  pub cookie : caller_of https settings at lines ≡ Some caller
   pub page : (fields : List Field) × (fields_of message.body ≡ Some fields) × SaysPage caller sent fields
 
 abbrev pub IfAct : PageRequest → (List ℕ → SubmittedForm → Type 0) → Type 0
