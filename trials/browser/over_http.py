@@ -259,6 +259,7 @@ def bodies():
     """Bodies that no form of the desk makes."""
     with serving("bodies") as visitor:
         at = f"/desk/requests/{TALK}"
+        before = visitor.told(f"/requests/{TALK}/history").body
         for what, place, body in (
             ("a field twice", f"{at}/give", "me=bob&person=cid&person=ann"),
             ("a field too much", f"{at}/take", "me=bob&person=cid"),
@@ -266,12 +267,26 @@ def bodies():
             ("nobody's page", f"{at}/take", ""),
             ("two persons' page", f"{at}/take", "me=bob&me=bob"),
             ("no field", f"{at}/reply", "me=bob"),
-            ("no entry that was seen", f"{at}/reply", "me=bob&text=a"),
+            ("a role that is none", f"{at}/watch", "me=bob&role=owner&person=ann"),
+            ("a kind that is none", f"{at}/link", "me=bob&kind=Likes&other=1"),
+            ("nobody's reply", f"{at}/reply", "seen=1&text=kept"),
+            ("two persons' comment", f"{at}/comment", "me=bob&me=ann&text=kept"),
+            ("no entry that was seen", f"{at}/reply", "me=bob&text=kept"),
+            ("two entries that were seen", f"{at}/reply", "me=bob&seen=1&seen=2&text=kept"),
+            ("a word that was seen", f"{at}/reply", "me=bob&seen=one&text=kept"),
+            ("nobody's new request", "/desk/queues/support/new", "subject=A+badge&requestors=ann&text=kept"),
+        ):
+            reply = visitor.post(place, body)
+            page(what, reply, 400)
+            holds(f"{what}: it isn't told", "That form isn’t right" in reply.text)
+            if "kept" in body:
+                holds(f"{what}: the text is lost", "kept</textarea>" in reply.text)
+                holds(f"{what}: it can't be sent by bob", 'name="me" value="bob"' in reply.text)
+        expect("the history after them", visitor.told(f"/requests/{TALK}/history").body, before)
+        for what, place, body in (
             ("half an escape", f"{at}/reply", "me=bob&seen=1&text=%4"),
             ("an escape that is none", f"{at}/reply", "me=bob&seen=1&text=%zz"),
             ("no UTF-8", f"{at}/reply", "me=bob&seen=1&text=%ff%fe"),
-            ("a role that is none", f"{at}/watch", "me=bob&role=owner&person=ann"),
-            ("a kind that is none", f"{at}/link", "me=bob&kind=Likes&other=1"),
         ):
             reply = visitor.post(place, body)
             page(what, reply, 400)

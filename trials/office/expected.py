@@ -35,7 +35,7 @@ def by_message(desk, ask):
 def by_form(desk, ask):
     """The code of the reply to a form, and where it leads or what its page tells."""
     if unspelled(ask):
-        return 400, {"refused": "bad request 4 BadBody", "back": "/"}
+        return 400, {"refused": None, "back": f"/desk/requests/{ask.words[0]}"}
     filed = done = None
     try:
         refuse_beforehand(ask)

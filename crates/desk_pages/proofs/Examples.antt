@@ -55,7 +55,8 @@ use Rattle.desk_pages.specs.Rows.{asking, cells, late_by, row, row_end, row_told
 use Rattle.desk_pages.specs.Search.{chosen_in, search_form}
 use Rattle.desk_pages.specs.SignIn.{kept, sign_in_page}
 use Rattle.desk_pages.specs.Sought.{heading_of, is_told, place_of, title_of, told}
-use Rattle.desk_pages.specs.Unsent.{ahead_note, other_heading, other_note, said_of, waiting_heading}
+use Rattle.desk_pages.specs.Unsent.{ahead_note, bad_heading, bad_note, other_heading, other_note}
+use Rattle.desk_pages.specs.Unsent.{said_of, waiting_heading}
 use Rattle.desk_pages.specs.Workload.{late_told, most}
 use Rattle.desk_pages.specs.Write.{move_too, reply}
 use Rattle.desk_pages.specs.declared.frame.Place.TheVariants as at
@@ -63,7 +64,7 @@ use Rattle.desk_pages.specs.declared.markup.home.TheConstants.{HOME_TOP}
 use Rattle.desk_pages.specs.declared.markup.rows.TheConstants.{TABLE_TOP}
 use Rattle.desk_pages.specs.declared.markup.search.TheConstants.{SEARCH}
 use Rattle.desk_pages.specs.declared.markup.sign_in.TheConstants.{SIGN_IN, SIGN_IN_END}
-use Rattle.desk_pages.specs.declared.unsent.Unsent.TheVariants.{OtherPerson}
+use Rattle.desk_pages.specs.declared.unsent.Unsent.TheVariants.{BadForm, OtherPerson}
 
 choice_that_tries_to_be_markup :
     page_bytes (choice true (codes "a<b")) ≡ codes "<option selected>a&lt;b</option>\n"
@@ -105,6 +106,14 @@ form_of_another_person :
     ++ codes "s: nothing was sent.</p>\n"
 unfolding filled_from other_heading other_note
 form_of_another_person = refl
+
+form_that_is_not_right :
+    page_bytes (said_of BadForm (codes "ann"))
+    ≡ codes "<h1>That form isn" ++ quote ++ codes "t right</h1>\n<p class=\"alert\">"
+    ++ codes "What was sent isn" ++ quote
+    ++ codes "t what this form sends, so nothing was done. Look at it, and try again.</p>\n"
+unfolding filled_from bad_heading bad_note
+form_that_is_not_right = refl
 
 text_that_comes_along :
     page_bytes (kept [] (codes "ann") 12 (codes "a\"b") [])

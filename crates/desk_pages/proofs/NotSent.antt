@@ -9,7 +9,8 @@ use Rattle.desk_pages.specs.RefusalPage.{is_found, typed, typed_page, unsent_ask
 use Rattle.desk_pages.specs.RefusalPage.{unsent_change_page, unsent_comment_page, unsent_page}
 use Rattle.desk_pages.specs.RefusalPage.{unsent_reply_page}
 use Rattle.desk_pages.specs.Refused.{crumb, front_of, is_denied, notice, to_queue, to_request}
-use Rattle.desk_pages.specs.Unsent.{ahead_note, other_note, own_note, said_of, title_of, why_told}
+use Rattle.desk_pages.specs.Unsent.{ahead_note, bad_note, other_note, own_note, said_of, title_of}
+use Rattle.desk_pages.specs.Unsent.{why_told}
 use Rattle.desk_pages.specs.declared.frame.Place.TheVariants.{Elsewhere}
 use Rattle.desk_pages.specs.declared.markup.refused.TheConstants.{CRUMB, NOTE, NOTICE, TO_QUEUE}
 use Rattle.desk_pages.specs.declared.markup.refused.TheConstants.{TO_QUEUES, TO_REQUEST}
@@ -29,7 +30,7 @@ same_notice front words why other same =
 
 same_said : (why other : Unsent) (caller another : List ℕ) → why_told why ≡ why_told other
     → SameMarkup (said_of why caller) (said_of other another)
-unfolding ahead_note other_note own_note through
+unfolding ahead_note bad_note other_note own_note through
 same_said (Refused why) (Refused other) caller another same =
     let denied : is_denied why ≡ is_denied other = cc in
     same_notice (front_of why) (front_of other) why other denied

@@ -6,7 +6,8 @@ use Rattle.desk_pages.specs.Pieces.{quote}
 use Rattle.desk_pages.specs.Refused.{heading_of, is_denied, notice_of}
 use Rattle.desk_pages.specs.declared.markup.refused.TheConstants.{NOTE}
 use Rattle.desk_pages.specs.declared.unsent.Unsent.{Unsent}
-use Rattle.desk_pages.specs.declared.unsent.Unsent.TheVariants.{Refused, OtherPerson, SignedIn, Ahead}
+use Rattle.desk_pages.specs.declared.unsent.Unsent.TheVariants.{Refused, OtherPerson, BadForm}
+use Rattle.desk_pages.specs.declared.unsent.Unsent.TheVariants.{SignedIn, Ahead}
 
 -- it stood on another person's page
 unfoldable pub other_heading : List ℕ
@@ -17,6 +18,17 @@ other_note caller person =
     filled NOTE.now
     (other_heading ∷ codes "You are signed in as " ∷ caller ∷ codes " now. This form was "
     ∷ person ∷ (quote ++ codes "s: nothing was sent.") ∷ []) []
+
+-- it isn't what its form sends
+unfoldable pub bad_heading : List ℕ
+bad_heading = codes "That form isn" ++ (quote ++ codes "t right")
+
+unfoldable pub bad_note : List Part
+bad_note =
+    filled NOTE.now
+    (bad_heading
+    ∷ (codes "What was sent isn" ++ (quote ++ codes "t what this form sends, so nothing was done. "))
+    ∷ codes "Look at it, and try again." ∷ [] ∷ [] ∷ [] ∷ []) []
 
 -- nobody was signed in, and now the caller is
 unfoldable pub own_heading : List ℕ
@@ -45,12 +57,14 @@ ahead_note =
 abbrev pub title_of : Unsent → List ℕ
 title_of (Refused refusal) = heading_of refusal
 title_of (OtherPerson person) = other_heading
+title_of BadForm = bad_heading
 title_of SignedIn = own_heading
 title_of Ahead = waiting_heading
 
 abbrev pub said_of : Unsent → List ℕ → List Part
 said_of (Refused refusal) caller = notice_of refusal
 said_of (OtherPerson person) caller = other_note caller person
+said_of BadForm caller = bad_note
 said_of SignedIn caller = own_note caller
 said_of Ahead caller = ahead_note
 

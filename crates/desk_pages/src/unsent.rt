@@ -17,6 +17,8 @@ pub enum Unsent {
     Refused(Refusal),
     /// It stood on the page of this person, who isn't the caller.
     OtherPerson(Text),
+    /// It isn't what its form sends.
+    BadForm,
     /// Nobody was signed in; the caller signed in then.
     SignedIn,
     /// It is a reply to entries that the history doesn't have.
@@ -24,13 +26,14 @@ pub enum Unsent {
 }
 
 /// The heading of what is said of it.
-#[tactic(auto, unfolding(crate::specs::Unsent::other_heading, crate::specs::Unsent::own_heading))]
+#[tactic(auto, unfolding(crate::specs::Unsent::other_heading, crate::specs::Unsent::bad_heading, crate::specs::Unsent::own_heading))]
 pub(crate) fn title_of(why: &Unsent) -> &'static str
     ensures { result.now ≡ form.title_of why.now }
 {
     match why {
         Unsent::Refused(refusal) => heading_of(refusal),
         Unsent::OtherPerson(_) => "This form was another person’s",
+        Unsent::BadForm => "That form isn’t right",
         Unsent::SignedIn => "You are signed in",
         Unsent::Ahead => waiting_heading(),
     }
@@ -52,6 +55,7 @@ pub(crate) fn put_why(out: &mut Vec<u8>, why: &Unsent, caller: &str) -> Result<(
     match why {
         Unsent::Refused(refusal) => put_refusal(out, refusal),
         Unsent::OtherPerson(person) => put_other(out, caller, person.as_str()),
+        Unsent::BadForm => put_bad(out),
         Unsent::SignedIn => put_signed_in(out, caller),
         Unsent::Ahead => put_ahead(out),
     }
@@ -84,6 +88,21 @@ fn put_other<'t>(out: &mut Vec<u8>, caller: &'t str, person: &'t str) -> Result<
         Value::Text(" now. This form was "),
         Value::Text(person),
         Value::Text("’s: nothing was sent."),
+    ];
+    fill(out, NOTE, &values, &[])
+}
+
+#[tactic(auto, unfolding(crate::specs::Unsent::bad_heading, crate::specs::Unsent::bad_note))]
+fn put_bad(out: &mut Vec<u8>) -> Result<(), AllocError>
+    ensures { OnOk result (out.new.items ≡ out.old.items ++ page_bytes form.bad_note) }
+{
+    let values = [
+        Value::Text("That form isn’t right"),
+        Value::Text("What was sent isn’t what this form sends, so nothing was done. "),
+        Value::Text("Look at it, and try again."),
+        Value::Text(""),
+        Value::Text(""),
+        Value::Text(""),
     ];
     fill(out, NOTE, &values, &[])
 }

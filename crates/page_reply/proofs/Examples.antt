@@ -1,9 +1,11 @@
--- Examples of the definitions: a page's reply byte by byte, with each change of the cookie, with a
--- place that it leads to, with the methods of a path and to a HEAD; and the style sheet's.
-use Rattle.std.specs.Prelude.{◌≡◌, refl, ℕ, true, false, List, [], ◌++◌, codes, Some, None}
+-- Examples of the definitions: a page's reply byte by byte and line by line, with each change of the
+-- cookie, with a place that it leads to, with the methods of a path and to a HEAD; and the style sheet's.
+use Rattle.std.specs.Prelude.{◌≡◌, refl, ℕ, true, false, List, [], ◌∷◌, ◌++◌, codes, Some, None}
 use Rattle.std.specs.Fmt.{digits}
 use Rattle.message_core.specs.ReplyHead.{content_length_line, content_type_line, last_line}
 use Rattle.message_core.specs.ReplyHead.{status_line}
+use Rattle.page_reply.specs.Laws.{allow_lines, cookie_lines, cookie_text, is_line, is_page_code, is_printed}
+use Rattle.page_reply.specs.Laws.{is_value, lines_of, same_lines, written}
 use Rattle.page_reply.specs.PageReply.{allow_line, bytes_of, cookie_line, cookie_start, forget_line}
 use Rattle.page_reply.specs.PageReply.{guard_lines}
 use Rattle.page_reply.specs.PageReply.{keep_lines, leads_line, location_line, own_lines, page_kind}
@@ -141,3 +143,76 @@ way_to_a_request :
     ++ (codes "Content-Length: 0\r\nLocation: /desk/requests/7#reply\r\n" ++ guards)
 unfolding status_line content_type_line content_length_line last_line page_kind own_lines leads_line allow_line guard_lines digits
 way_to_a_request = refl
+
+-- Laws.antt
+
+space_is_printed : is_printed 32 ≡ true
+space_is_printed = refl
+
+unit_separator_is_not : is_printed 31 ≡ false
+unit_separator_is_not = refl
+
+tilde_is_printed : is_printed 126 ≡ true
+tilde_is_printed = refl
+
+delete_is_not : is_printed 127 ≡ false
+delete_is_not = refl
+
+empty_line_is_none : is_line [] ≡ false
+empty_line_is_none = refl
+
+line_with_an_end_is_none : is_line (codes "a\r\nb") ≡ false
+line_with_an_end_is_none = refl
+
+two_lines_and_a_text : written (codes "a: 1" ∷ codes "b: 2" ∷ []) (codes "c") ≡ codes "a: 1\r\nb: 2\r\n\r\nc"
+two_lines_and_a_text = refl
+
+cookie_is_one_value : is_value (codes "ann.1720.0a") ≡ true
+cookie_is_one_value = refl
+
+semicolon_ends_a_value : is_value (codes "a;b") ≡ false
+semicolon_ends_a_value = refl
+
+conflict_is_told_by_a_page : is_page_code 409 ≡ true
+conflict_is_told_by_a_page = refl
+
+created_is_told_by_none : is_page_code 201 ≡ false
+created_is_told_by_none = refl
+
+text_of_a_session : cookie_text (Session true (codes "abc")) ≡ Some (codes "abc")
+text_of_a_session = refl
+
+no_text_of_a_cookie_that_goes : cookie_text (Forget true) ≡ None
+no_text_of_a_cookie_that_goes = refl
+
+line_of_a_session :
+    cookie_lines (Session true (codes "abc"))
+    ≡ codes "Set-Cookie: __Host-desk=abc; Secure; Path=/; HttpOnly; SameSite=Lax" ∷ []
+unfolding cookie_start secure
+line_of_a_session = refl
+
+lines_of_a_cookie_that_goes :
+    cookie_lines (Forget false)
+    ≡ codes "Set-Cookie: desk=; Path=/; Max-Age=0; HttpOnly; SameSite=Lax"
+    ∷ codes "Clear-Site-Data: \"cache\"" ∷ []
+unfolding cookie_start secure
+lines_of_a_cookie_that_goes = refl
+
+lines_of_a_way :
+    lines_of (record {
+      status = 303;
+      cookie = Stay false (codes "abc");
+      location = Some (codes "/desk/overdue");
+      allow = None;
+      page = [];
+      head_only = false;
+    })
+    ≡ codes "HTTP/1.1 303 See Other" ∷ codes "Content-Type: text/html; charset=utf-8"
+    ∷ codes "Content-Length: 0"
+    ∷ codes "Set-Cookie: desk=abc; Path=/; Max-Age=2592000; HttpOnly; SameSite=Lax"
+    ∷ codes "Location: /desk/overdue" ∷ same_lines
+unfolding cookie_start digits page_kind secure status_line
+lines_of_a_way = refl
+
+lines_of_a_place_that_takes_posts : allow_lines (Some GetAndPost) ≡ codes "Allow: GET, HEAD, POST" ∷ []
+lines_of_a_place_that_takes_posts = refl

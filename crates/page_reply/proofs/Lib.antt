@@ -1,3 +1,4 @@
 pub mod CookieLemmas
 mod Examples
+pub mod HeadLaws
 pub mod WayLemmas

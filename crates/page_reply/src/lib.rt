@@ -4,6 +4,7 @@
 //! desk's own styles, post to the desk alone, stand in no frame and in no cache.
 #![tactic(auto)]
 
+pub mod laws;
 mod reply;
 mod sheet;
 mod way;

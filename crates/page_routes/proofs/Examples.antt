@@ -25,7 +25,8 @@ use Rattle.page_routes.specs.Places.{queue_page, takes_post}
 use Rattle.page_routes.specs.Visits.{Answer, Lines, acted, asked_at, asked_by, caller_by, caller_of}
 use Rattle.page_routes.specs.Visits.{form_of, got, is_not_signed_in, is_search, is_wrong_token}
 use Rattle.page_routes.specs.Visits.{lasts_of, looker, next_from, next_in}
-use Rattle.page_routes.specs.Visits.{page_or_home, posted, posted_from, sent_in, sent_on, signed_at, signed_by}
+use Rattle.page_routes.specs.Visits.{page_or_home, person_in, posted, posted_from, sent_in, sent_on}
+use Rattle.page_routes.specs.Visits.{signed_at, signed_by}
 use Rattle.page_routes.specs.declared.fault.PageFault.TheVariants.{NoRoute, BadMethod, OtherSite}
 use Rattle.page_routes.specs.declared.fault.PageFault.TheVariants.{BadBody}
 use Rattle.page_routes.specs.declared.next.Next.TheVariants as nexts
@@ -337,18 +338,34 @@ new_request_with_a_status = refl
 other_acts_send_a_change : sent_on forms.Take 7 [] ≡ sends.Change 7
 other_acts_send_a_change = refl
 
-no_command_is_a_bad_body : acted (codes "ann") (codes "ann") (sends.Change 7) None ≡ Err BadBody
-no_command_is_a_bad_body = refl
+fields_that_give_no_command :
+    acted (Some (codes "ann")) (codes "ann") (sends.Change 7) None
+    ≡ visits.BadForm (codes "ann") (sends.Change 7)
+fields_that_give_no_command = refl
 
 command_of_a_caller :
-    acted (codes "ann") (codes "ann") (sends.Change 7) (Some (command.Take 7))
-    ≡ Ok (visits.Act (codes "ann") (command.Take 7) (sends.Change 7))
+    acted (Some (codes "ann")) (codes "ann") (sends.Change 7) (Some (command.Take 7))
+    ≡ visits.Act (codes "ann") (command.Take 7) (sends.Change 7)
 command_of_a_caller = refl
 
 command_of_another_persons_page :
-    acted (codes "bob") (codes "ann") (sends.Change 7) (Some (command.Take 7))
-    ≡ Ok (visits.OtherPerson (codes "ann") (codes "bob") (sends.Change 7))
+    acted (Some (codes "bob")) (codes "ann") (sends.Change 7) (Some (command.Take 7))
+    ≡ visits.OtherPerson (codes "ann") (codes "bob") (sends.Change 7)
 command_of_another_persons_page = refl
+
+-- whatever its fields are
+no_command_of_another_persons_page :
+    acted (Some (codes "bob")) (codes "ann") (sends.Change 7) None
+    ≡ visits.OtherPerson (codes "ann") (codes "bob") (sends.Change 7)
+no_command_of_another_persons_page = refl
+
+command_of_nobodys_page :
+    acted None (codes "ann") (sends.Change 7) (Some (command.Take 7))
+    ≡ visits.BadForm (codes "ann") (sends.Change 7)
+command_of_nobodys_page = refl
+
+page_of_an_empty_name : person_in (field (codes "me") [] ∷ []) ≡ None
+page_of_an_empty_name = refl
 
 taking_by_a_post :
     asked_at (codes "ann") (places.Act forms.Take 7) (field (codes "me") (codes "ann") ∷ [])
@@ -360,17 +377,27 @@ taking_of_another_persons_page :
     ≡ Ok (visits.OtherPerson (codes "ann") (codes "bob") (sends.Change 7))
 taking_of_another_persons_page = refl
 
-taking_of_nobodys_page : asked_at (codes "ann") (places.Act forms.Take 7) [] ≡ Err BadBody
+-- ann presses a button of request 7 whose form isn't right
+abbrev bad_taking : Answer
+bad_taking = Ok (visits.BadForm (codes "ann") (sends.Change 7))
+
+taking_of_nobodys_page : asked_at (codes "ann") (places.Act forms.Take 7) [] ≡ bad_taking
 taking_of_nobodys_page = refl
 
 taking_of_a_page_told_twice :
     asked_at (codes "ann") (places.Act forms.Take 7)
-    (field (codes "me") (codes "ann") ∷ field (codes "me") (codes "ann") ∷ []) ≡ Err BadBody
+    (field (codes "me") (codes "ann") ∷ field (codes "me") (codes "ann") ∷ []) ≡ bad_taking
 taking_of_a_page_told_twice = refl
+
+-- the first of two is the page's
+taking_of_the_pages_of_two :
+    asked_at (codes "ann") (places.Act forms.Take 7)
+    (field (codes "me") (codes "ann") ∷ field (codes "me") (codes "bob") ∷ []) ≡ bad_taking
+taking_of_the_pages_of_two = refl
 
 taking_with_a_field :
     asked_at (codes "ann") (places.Act forms.Take 7)
-    (field (codes "me") (codes "ann") ∷ field (codes "a") [] ∷ []) ≡ Err BadBody
+    (field (codes "me") (codes "ann") ∷ field (codes "a") [] ∷ []) ≡ bad_taking
 taking_with_a_field = refl
 
 -- ann's reply to request 7, with such fields
@@ -384,15 +411,33 @@ reply_of_a_page_with_three_entries :
     ≡ Ok (visits.Act (codes "ann") (command.Reply 7 (codes "Hi")) (sends.Reply 7 3 (codes "Hi") None))
 reply_of_a_page_with_three_entries = refl
 
-reply_that_tells_no_entry : replying [] ≡ Err BadBody
+-- what she typed comes along
+reply_that_tells_no_entry :
+    replying [] ≡ Ok (visits.BadForm (codes "ann") (sends.Reply 7 0 (codes "Hi") None))
 reply_that_tells_no_entry = refl
 
 reply_that_tells_one_twice :
-    replying (field (codes "seen") (codes "3") ∷ seen (codes "3")) ≡ Err BadBody
+    replying (field (codes "seen") (codes "3") ∷ seen (codes "3"))
+    ≡ Ok (visits.BadForm (codes "ann") (sends.Reply 7 3 (codes "Hi") None))
 reply_that_tells_one_twice = refl
 
-reply_that_tells_a_word : replying (seen (codes "three")) ≡ Err BadBody
+reply_that_tells_a_word :
+    replying (seen (codes "three"))
+    ≡ Ok (visits.BadForm (codes "ann") (sends.Reply 7 0 (codes "Hi") None))
 reply_that_tells_a_word = refl
+
+reply_of_nobodys_page :
+    asked_at (codes "ann") (places.Act forms.Reply 7)
+    (field (codes "seen") (codes "3") ∷ field (codes "text") (codes "Hi") ∷ [])
+    ≡ Ok (visits.BadForm (codes "ann") (sends.Reply 7 3 (codes "Hi") None))
+reply_of_nobodys_page = refl
+
+new_request_without_its_requestors :
+    asked_at (codes "ann") (places.Page (pages.New (codes "it")))
+    (field (codes "me") (codes "ann") ∷ field (codes "subject") (codes "Ink")
+    ∷ field (codes "text") (codes "Hi") ∷ [])
+    ≡ Ok (visits.BadForm (codes "ann") (sends.New (codes "it") (codes "Ink") [] (codes "Hi") None))
+new_request_without_its_requestors = refl
 
 post_to_a_page_without_one : asked_at (codes "ann") (places.Page pages.Home) [] ≡ Err (BadMethod false)
 post_to_a_page_without_one = refl

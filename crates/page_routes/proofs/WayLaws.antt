@@ -15,7 +15,7 @@ use Rattle.page_routes.specs.Laws.{StaysHere, WaysStayHere, led}
 use Rattle.page_routes.specs.Places.{method_named, place_at, takes_post}
 use Rattle.page_routes.specs.Visits.{Answer, Lines, acted, asked_at, asked_by, caller_by, caller_of, cookie_by}
 use Rattle.page_routes.specs.Visits.{form_of, got, is_own, kept, looked, looker, next_by, next_from, next_in}
-use Rattle.page_routes.specs.Visits.{next_of, page_or_home, posted, posted_from, resumed, signed}
+use Rattle.page_routes.specs.Visits.{next_of, page_or_home, posted, posted_from, resumed, sent_by, signed}
 use Rattle.page_routes.specs.Visits.{signed_at, signed_by, signing, token_in, typed, typed_at, visited, visited_at}
 use Rattle.page_routes.specs.declared.fault.PageFault.TheVariants.{BadBody, BadMethod, OtherSite}
 use Rattle.page_routes.specs.declared.next.Next.{Next}
@@ -57,15 +57,20 @@ got_stays https s at lines (places.Act act id) here = here
 
 -- ---- commands lead nowhere by themselves
 
-from_stays : (person caller : List ℕ) (sent : SubmittedForm) (command : Command) (own : Bool)
-    → Stays (if own then visits.Act caller command sent else visits.OtherPerson caller person sent)
-from_stays person caller sent command true = tt
+own_stays : (caller : List ℕ) (sent : SubmittedForm) (command : Option Command)
+    → Stays (sent_by caller sent command)
+own_stays caller sent None = tt
+own_stays caller sent (Some command) = tt
+
+from_stays : (person caller : List ℕ) (sent : SubmittedForm) (command : Option Command) (own : Bool)
+    → Stays (if own then sent_by caller sent command else visits.OtherPerson caller person sent)
+from_stays person caller sent command true = own_stays caller sent command
 from_stays person caller sent command false = tt
 
-acted_stays : (person caller : List ℕ) (sent : SubmittedForm) (command : Option Command)
-    → Answers (acted person caller sent command)
-acted_stays person caller sent None = tt
-acted_stays person caller sent (Some command) =
+acted_stays : (person : Option (List ℕ)) (caller : List ℕ) (sent : SubmittedForm)
+    (command : Option Command) → Stays (acted person caller sent command)
+acted_stays None caller sent command = tt
+acted_stays (Some person) caller sent command =
     from_stays person caller sent command (bytes_eq person caller)
 
 at_stays : (caller : List ℕ) (place : Place) (fields : List Field) → Answers (asked_at caller place fields)

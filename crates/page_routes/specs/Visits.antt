@@ -103,29 +103,36 @@ sent_in queue fields =
     sends.New queue (typed (codes "subject") fields) (typed (codes "requestors") fields)
     (typed (codes "text") fields) (filled (value_of (codes "status") fields))
 
--- the person on whose page the form stood
-abbrev pub person_in : List Field → List ℕ
-person_in fields = typed (codes "me") fields
+-- the person on whose page the form stood, if it says one
+abbrev pub person_in : List Field → Option (List ℕ)
+person_in fields = filled (value_of (codes "me") fields)
+
+-- on the caller's own page: its command, where its fields give one
+abbrev pub sent_by : List ℕ → SubmittedForm → Option Command → PageRequest
+sent_by caller sent None = visits.BadForm caller sent
+sent_by caller sent (Some command) = visits.Act caller command sent
 
 -- a form of another person's page is no command
-abbrev pub sent_from : List ℕ → List ℕ → SubmittedForm → Command → PageRequest
+abbrev pub sent_from : List ℕ → List ℕ → SubmittedForm → Option Command → PageRequest
 sent_from person caller sent command =
-    if bytes_eq person caller then visits.Act caller command sent
+    if bytes_eq person caller then sent_by caller sent command
     else visits.OtherPerson caller person sent
 
-abbrev pub acted : List ℕ → List ℕ → SubmittedForm → Option Command → Answer
-acted person caller sent None = Err BadBody
-acted person caller sent (Some command) = Ok (sent_from person caller sent command)
+-- nor is one that doesn't say whose page it was
+abbrev pub acted : Option (List ℕ) → List ℕ → SubmittedForm → Option Command → PageRequest
+acted None caller sent command = visits.BadForm caller sent
+acted (Some person) caller sent command = sent_from person caller sent command
 
 -- what a caller's fields ask at a place that takes a command
 abbrev pub asked_at : List ℕ → Place → List Field → Answer
 asked_at caller places.Queues fields =
-    acted (person_in fields) caller sends.Queue (command_in forms.OpenQueue Nothing fields)
+    Ok (acted (person_in fields) caller sends.Queue (command_in forms.OpenQueue Nothing fields))
 asked_at caller (places.Act act id) fields =
-    acted (person_in fields) caller (sent_on act id fields) (command_in act (OnRequest id) fields)
+    Ok (acted (person_in fields) caller (sent_on act id fields)
+    (command_in act (OnRequest id) fields))
 asked_at caller (places.Page (pages.New queue)) fields =
-    acted (person_in fields) caller (sent_in queue fields)
-    (command_in forms.Create (InQueue queue) fields)
+    Ok (acted (person_in fields) caller (sent_in queue fields)
+    (command_in forms.Create (InQueue queue) fields))
 asked_at caller _ fields = Err (BadMethod false)
 
 -- where the form of such a place stands

@@ -93,17 +93,12 @@ fn asked_at(
                 PathParameter::Nothing,
                 fields,
             )?;
-            acted(alloc, fields, caller, SubmittedForm::Queue, command)
+            Ok(acted(alloc, fields, caller, SubmittedForm::Queue, command)?)
         }
         Place::Act(act, id) => {
             let command = command_in(alloc, act, PathParameter::Request(id), fields)?;
-            acted(
-                alloc,
-                fields,
-                caller,
-                sent_on(alloc, act, id, fields)?,
-                command,
-            )
+            let sent = sent_on(alloc, act, id, fields)?;
+            Ok(acted(alloc, fields, caller, sent, command)?)
         }
         Place::Page(Page::New(queue)) => {
             let command = command_in(
@@ -112,52 +107,43 @@ fn asked_at(
                 PathParameter::Queue(queue.as_str()),
                 fields,
             )?;
-            acted(
-                alloc,
-                fields,
-                caller,
-                sent_in(alloc, queue, fields)?,
-                command,
-            )
+            let sent = sent_in(alloc, queue, fields)?;
+            Ok(acted(alloc, fields, caller, sent, command)?)
         }
         _ => Err(PageFault::BadMethod { posts: false }),
     }
 }
 
+/// What a form asks that stood on some page: a command only on the caller's own, and with just its
+/// fields.
 fn acted(
     alloc: Global,
     fields: &[Field],
     caller: Text,
     sent: SubmittedForm,
     command: Option<Command>,
-) -> Result<PageRequest, PageFault>
-    ensures ok { IfOk result (λ visit.
-        visits.acted (visits.person_in fields.now) caller sent command ≡ Ok visit) }
-    ensures err { IfErr result (λ fault. fault ≢ PageFault.NoMemory
-        → visits.acted (visits.person_in fields.now) caller sent command ≡ Err fault) }
+) -> Result<PageRequest, AllocError>
+    ensures { IfOk result (λ visit.
+        visit ≡ visits.acted (visits.person_in fields.now) caller sent command) }
 {
-    match command {
-        Some(command) => Ok(sent_from(alloc, typed(fields, "me"), caller, sent, command)?),
-        None => Err(PageFault::BadBody),
+    match filled_value(fields, "me") {
+        Some(person) => sent_from(alloc, person, caller, sent, command),
+        None => Ok(PageRequest::BadForm { caller, sent }),
     }
 }
 
-/// The command of a form, if it stood on the caller's own page.
+/// The same on the page of this person.
 fn sent_from(
     alloc: Global,
     person: &str,
     caller: Text,
     sent: SubmittedForm,
-    command: Command,
+    command: Option<Command>,
 ) -> Result<PageRequest, AllocError>
     ensures { IfOk result (λ visit. visit ≡ visits.sent_from person.now caller sent command) }
 {
     if person == caller.as_str() {
-        return Ok(PageRequest::Act {
-            caller,
-            command,
-            sent,
-        });
+        return Ok(sent_by(caller, sent, command));
     }
     let person = Text::new(alloc, person)?;
     Ok(PageRequest::OtherPerson {
@@ -165,6 +151,20 @@ fn sent_from(
         person,
         sent,
     })
+}
+
+/// The same on the caller's own page.
+fn sent_by(caller: Text, sent: SubmittedForm, command: Option<Command>) -> PageRequest
+    ensures { result ≡ visits.sent_by caller sent command }
+{
+    match command {
+        Some(command) => PageRequest::Act {
+            caller,
+            command,
+            sent,
+        },
+        None => PageRequest::BadForm { caller, sent },
+    }
 }
 
 /// What was sent with a form on a request.

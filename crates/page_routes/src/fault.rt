@@ -19,7 +19,7 @@ pub enum PageFault {
     /// A post comes from another site's page.
     #[error("another site asked for this")]
     OtherSite,
-    /// The body isn't what the form of this place sends.
+    /// The body isn't that of a form, or signing in sends other fields than its form.
     #[error("what was sent isn't what this form sends")]
     BadBody,
     /// Memory was refused.

@@ -75,6 +75,12 @@ pub enum PageRequest {
         person: Text,
         sent: SubmittedForm,
     },
+    /// POST of any other place by a form that doesn't say whose page it was, or that hasn't just the
+    /// fields of its place, each once and of its form: the same.
+    BadForm {
+        caller: Text,
+        sent: SubmittedForm,
+    },
     /// POST of any other place: a command.
     Act {
         caller: Text,
@@ -87,11 +93,13 @@ pub enum PageRequest {
 /// head say. Whether browsers come by HTTPS says which cookie is read and given.
 ///
 /// `NoRoute` where its path is no place, `BadMethod` where the place doesn't have its method,
-/// `OtherSite` where a post comes from another site, and `BadBody` where a body isn't what the form
-/// sends: the first of these that holds. A reply sends as `seen` the number of the last entry that its
-/// page showed: `BadBody` also where that is missing, stands there twice, or isn't 1 to 10 digits, of at
-/// most 4,294,967,295. Whoever the cookie is, it is looked at before the body, but
-/// not for signing in and out. `NoMemory` may stand in place of any other answer.
+/// `OtherSite` where a post comes from another site, and `BadBody` where a body isn't that of a form, or
+/// signing in sends other fields than its form: the first of these that holds. A form sends as `me` the
+/// person on whose page it stood, and a reply as `seen` the number of the last entry that the page
+/// showed, of 1 to 10 digits and at most 4,294,967,295. Where `me` is another person that is asked for,
+/// and where a field is missing, stands there twice or isn't of that form, a `BadForm`: with what was
+/// typed, and nothing is done. Whoever the cookie is, it is looked at before the body, but not for
+/// signing in and out. `NoMemory` may stand in place of any other answer.
 pub fn visit_of(
     alloc: Global,
     settings: &Settings,

@@ -1,6 +1,7 @@
 -- What holds of all pages, by their definitions.
 use Rattle.std.proofs.Common.{◌≡◌, ℕ, Bool, true, false, List, Option, Some, None, Result, Ok, Err}
-use Rattle.std.proofs.Common.{if◌then◌else◌, subst, true≢false}
+use Rattle.std.proofs.Common.{if◌then◌else◌, inl, inr, subst, true≢false}
+use Rattle.std.specs.Prelude.{◌⊎◌, IfOk}
 use Rattle.hours_core.specs.Moment.{is_due_moment}
 use Rattle.settings_core.specs.declared.settings.Settings.{Settings}
 use Rattle.desk_model.specs.Desk.{Desk}
@@ -18,7 +19,10 @@ use Rattle.message_core.specs.Request.{values_in}
 use Rattle.message_core.specs.declared.message.Message.{Message}
 use Rattle.page_routes.specs.Places.{method_named, place_at, takes_post}
 use Rattle.page_routes.specs.Visits.{Answer, Lines, got, is_own, looked, looker, posted, visited}
-use Rattle.page_routes.specs.Visits.{visited_at}
+use Rattle.page_routes.specs.Visits.{visit_of, visited_at}
+use Rattle.page_routes.specs.Laws.{IfAct, IsAskedBy}
+use Rattle.page_routes.proofs.AskLaws.{acts_are_asked}
+use Rattle.page_routes.specs.declared.next.SubmittedForm.{SubmittedForm}
 use Rattle.page_routes.specs.declared.fault.PageFault.TheVariants.{BadMethod, OtherSite}
 use Rattle.page_routes.specs.declared.page.Page as routes
 use Rattle.page_routes.specs.declared.page.Page.TheVariants as page
@@ -28,7 +32,7 @@ use Rattle.page_routes.specs.declared.visit.PageRequest.{PageRequest}
 use Rattle.page_routes.specs.declared.visit.PageRequest.TheVariants as visit
 use Rattle.wire_core.specs.Replies.{is_head}
 use Rattle.page_wire.specs.Faults.{fault_reply}
-use Rattle.page_wire.specs.Laws.{LooksLeave, OtherSitesLeave, fault_elsewhere}
+use Rattle.page_wire.specs.Laws.{ChangesAreAsked, LooksLeave, OtherSitesLeave, fault_elsewhere}
 use Rattle.page_wire.specs.Replies as replies
 use Rattle.page_wire.specs.Steps.{FindSteps, IfElse, LookSteps, PageSteps, SearchFormSteps}
 use Rattle.page_wire.specs.Steps.{SearchSteps, Stays, Tells, TimedPageSteps}
@@ -87,6 +91,32 @@ module _ (s : Settings) (at : ℕ) (old new : Desk) (bytes : List ℕ) where
   got_leaves https lines (places.Page next) steps = look_leaves next (looker https s at lines next) steps
   got_leaves https lines (places.Act act id) steps = fixed_leaves (visit.Leads (page.Request id)) steps
 
+  told_leaves : (v : PageRequest) (reply : List ℕ)
+      → IfElse (is_due_moment at) (Tells reply old bytes new) (Stays v old bytes new) → new ≡ old
+  told_leaves v reply steps = by_either (is_due_moment at) _ _ (λ told. told.1) (λ stays. stays.1) steps
+
+  -- ---- what is no command leaves
+
+  changed : (P : List ℕ → SubmittedForm → Type 0) (v : PageRequest) → IfAct v P
+      → TimedPageSteps s at v old bytes new
+      → (new ≡ old) ⊎ ((caller : List ℕ) × (sent : SubmittedForm) × P caller sent)
+  changed P (visit.Act caller command sent) asked steps = inr (caller, sent, asked)
+  changed P (visit.Look caller next) asked steps = inl (look_leaves next (Some caller) steps)
+  changed P (visit.Resumed https caller cookie keep sent) asked steps =
+      inl (told_leaves (visit.Resumed https caller cookie keep sent) _ steps)
+  changed P (visit.OtherPerson caller person sent) asked steps =
+      inl (told_leaves (visit.OtherPerson caller person sent) _ steps)
+  changed P (visit.BadForm caller sent) asked steps =
+      inl (told_leaves (visit.BadForm caller sent) _ steps)
+  changed P other asked steps = inl (fixed_leaves other steps)
+
+answer_changed : (P : List ℕ → SubmittedForm → Type 0) (s : Settings) (at : ℕ) (old new : Desk)
+    (bytes : List ℕ) (h : Bool) (answer : Answer)
+    → IfOk answer (λ v. IfAct v P) → PageSteps s at h answer old bytes new
+    → (new ≡ old) ⊎ ((caller : List ℕ) × (sent : SubmittedForm) × P caller sent)
+answer_changed P s at old new bytes h (Err fault) asked steps = inl steps.1
+answer_changed P s at old new bytes h (Ok v) asked steps = changed s at old new steps.0 P v asked steps.1
+
 module _ (https : Bool) (s : Settings) (at : ℕ) (message : Message) (lines : Lines) (h : Bool)
     (old new : Desk) (bytes : List ℕ) where
   place_leaves : (place : Option Place) → method_named message.method ≡ Some Get
@@ -120,6 +150,12 @@ pub looks_leave : LooksLeave
 looks_leave https s at request head old new bytes starts is steps =
     place_leaves https s at request.message (values_in head) (is_head request.message) old new bytes
     (place_at request.message.target) is (steps head starts)
+
+pub changes_are_asked : ChangesAreAsked
+changes_are_asked https s at request head old new bytes starts steps =
+    answer_changed (IsAskedBy https s at request.message (values_in head)) s at old new bytes
+    (is_head request.message) (visit_of https s at request.message (values_in head))
+    (acts_are_asked https s at request.message (values_in head)) (steps head starts)
 
 pub other_sites_leave : OtherSitesLeave
 other_sites_leave https s at request head old new bytes starts is other steps =

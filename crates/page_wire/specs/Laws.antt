@@ -1,7 +1,7 @@
 -- What holds of all pages: whatever is looked at stays, another site changes nothing and learns nothing,
--- no page depends on what its caller may not see, nor does what is told of a text that isn't sent, and
--- no reply has a token.
-use Rattle.std.specs.Prelude.{◌≡◌, ◌≢◌, ℕ, Bool, false, if◌then◌else◌, List, []}
+-- a caller's own form alone changes anything, no page depends on what its caller may not see, nor does what
+-- is told of a text that isn't sent, and no reply has a token.
+use Rattle.std.specs.Prelude.{◌≡◌, ◌≢◌, ◌⊎◌, ℕ, Bool, false, if◌then◌else◌, List, []}
 use Rattle.std.specs.Prelude.{Option, Some, None, Result, Ok, Err}
 use Rattle.httparse.specs.Grammar.{RequestHead}
 use Rattle.settings_core.specs.declared.settings.Settings.{Settings}
@@ -15,6 +15,7 @@ use Rattle.desk_forms.specs.declared.paths.Method.TheVariants.{Get, Post}
 use Rattle.message_core.specs.Head.{StartsWith}
 use Rattle.message_core.specs.Request.{values_in}
 use Rattle.message_core.specs.declared.request.Request.{Request}
+use Rattle.page_routes.specs.Laws.{IsAskedBy}
 use Rattle.page_routes.specs.Places.{method_named, place_at, takes_post}
 use Rattle.page_routes.specs.Visits.{is_own, visit_of}
 use Rattle.page_routes.specs.declared.fault.PageFault.{PageFault}
@@ -59,6 +60,15 @@ out_of_memory caller at = refused caller at Unavailable
 -- both are the same, where neither is that
 abbrev pub AreAlike : List ℕ → List ℕ → List ℕ → Type 0
 AreAlike out bytes told = bytes ≢ out → told ≢ out → bytes ≡ told
+
+-- the desk changes only by a post of its own, with the cookie of its caller, by a form of the caller's page
+abbrev pub ChangesAreAsked : Type 0
+ChangesAreAsked = (https : Bool) (settings : Settings) (at : ℕ) (request : Request)
+    (head : RequestHead) (old new : Desk) (bytes : List ℕ) → StartsWith request.head head []
+    → RequestPageSteps https settings at request old bytes new
+    → (new ≡ old)
+    ⊎ ((caller : List ℕ) × (sent : SubmittedForm)
+    × IsAskedBy https settings at request.message (values_in head) caller sent)
 
 -- on two desks that a caller sees alike each page is the same, byte for byte
 abbrev pub PagesAlike : Type 0

@@ -33,7 +33,7 @@ use Rattle.desk_pages.specs.Request.{request_page}
 use Rattle.desk_pages.specs.SignIn.{kept_page, sign_in_page}
 use Rattle.desk_pages.specs.Workload.{workload_page}
 use Rattle.desk_pages.specs.declared.unsent.Unsent.{Unsent}
-use Rattle.desk_pages.specs.declared.unsent.Unsent.TheVariants.{Refused, OtherPerson, SignedIn}
+use Rattle.desk_pages.specs.declared.unsent.Unsent.TheVariants.{Refused, OtherPerson, BadForm, SignedIn}
 use Rattle.page_reply.specs.PageReply.{bytes_of}
 use Rattle.page_reply.specs.declared.reply.CookieChange.{CookieChange}
 use Rattle.page_reply.specs.declared.reply.CookieChange.TheVariants.{Keep, Session, Stay}
@@ -205,6 +205,10 @@ refused_reply caller at sent refusal =
 abbrev pub other_person_reply : List ℕ → ℕ → List ℕ → SubmittedForm → List ℕ
 other_person_reply caller at person sent =
     with_page 409 (page_bytes (unsent_form caller at sent (OtherPerson person)))
+
+-- it isn't what its form sends
+abbrev pub bad_form_reply : List ℕ → ℕ → SubmittedForm → List ℕ
+bad_form_reply caller at sent = with_page 400 (page_bytes (unsent_form caller at sent BadForm))
 
 -- the caller is signed in now
 abbrev pub resumed_reply : Bool → List ℕ → ℕ → List ℕ → Bool → SubmittedForm → List ℕ

@@ -161,6 +161,7 @@ PageRequestSteps settings at (visit.Resumed https caller cookie keep sent) =
     Tells (replies.resumed_reply https caller at cookie keep sent)
 PageRequestSteps settings at (visit.OtherPerson caller person sent) =
     Tells (replies.other_person_reply caller at person sent)
+PageRequestSteps settings at (visit.BadForm caller sent) = Tells (replies.bad_form_reply caller at sent)
 PageRequestSteps settings at (visit.Act caller command sent) = FormSteps settings at caller command sent
 PageRequestSteps settings at other = Stays other
 

@@ -40,4 +40,5 @@ IsFixed (visit.Unknown next to_get) bytes = bytes ≡ sign_in 403 next false to_
 IsFixed (visit.Look caller page) bytes = bytes ≡ clock_reply
 IsFixed (visit.Resumed https caller cookie keep sent) bytes = bytes ≡ clock_reply
 IsFixed (visit.OtherPerson caller person sent) bytes = bytes ≡ clock_reply
+IsFixed (visit.BadForm caller sent) bytes = bytes ≡ clock_reply
 IsFixed (visit.Act caller command sent) bytes = bytes ≡ clock_reply

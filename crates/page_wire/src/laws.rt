@@ -1,6 +1,6 @@
 //! What holds of all pages: the contracts of functions that do nothing.
-ghost use Rattle.page_wire.specs.Laws.{LooksLeave, OtherSitesLeave, PagesAlike, TextsAlike};
-ghost use Rattle.page_wire.specs.Laws.{TokensChangeNothing};
+ghost use Rattle.page_wire.specs.Laws.{ChangesAreAsked, LooksLeave, OtherSitesLeave, PagesAlike};
+ghost use Rattle.page_wire.specs.Laws.{TextsAlike, TokensChangeNothing};
 
 /// Whatever GET and HEAD ask of the pages, the desk stays.
 pub fn look_law()
@@ -11,6 +11,13 @@ pub fn look_law()
 /// whatever fields it has.
 pub fn other_site_law()
     ensures { OtherSitesLeave }
+{}
+
+/// The desk changes only by a post that no other site sent, with the cookie of its caller, by a form that
+/// says once that it stood on the caller's page; a reply says once, by a number, which entry that showed
+/// last. So a form whose `me` or `seen` is missing, stands twice or isn't of its form changes nothing.
+pub fn change_law()
+    ensures { ChangesAreAsked }
 {}
 
 /// Nothing leaks by pages: on two desks that a caller sees alike each page is the same, byte for byte,

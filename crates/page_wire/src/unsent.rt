@@ -49,6 +49,20 @@ pub(crate) fn other_person_reply(
     with_page(alloc, 409, page)
 }
 
+/// The reply to a form that isn't what its form sends.
+pub(crate) fn bad_form_reply(
+    alloc: Global,
+    caller: &str,
+    moment: Minute,
+    sent: &SubmittedForm,
+) -> Result<Vec<u8>, AllocError>
+    ensures { IfOk result (λ out. out.items ≡ form.bad_form_reply caller.now moment sent.now) }
+{
+    let why = Unsent::BadForm;
+    let page = unsent_form(alloc, caller, moment, sent, &why)?;
+    with_page(alloc, 400, page)
+}
+
 /// The reply to one who signs in after a form that wasn't sent, with the cookie.
 pub(crate) fn resumed_reply(
     alloc: Global,

@@ -12,7 +12,7 @@ use crate::render::render_page;
 use crate::replies::{cookie_for, leads_to};
 use crate::sign_in::{sign_in, sign_in_to};
 use crate::submit::submit_form;
-use crate::unsent::{other_person_reply, resumed_reply};
+use crate::unsent::{bad_form_reply, other_person_reply, resumed_reply};
 use desk_core::Command;
 use desk_style::style_sheet;
 use hours_core::Minute;
@@ -63,6 +63,10 @@ pub(crate) fn make_visit<S: Backend>(
             Some(moment),
         ) => {
             let made = other_person_reply(alloc, caller.as_str(), moment, person, sent);
+            put(made, room)
+        }
+        (PageRequest::BadForm { caller, sent }, Some(moment)) => {
+            let made = bad_form_reply(alloc, caller.as_str(), moment, sent);
             put(made, room)
         }
         (
@@ -118,6 +122,7 @@ fn fixed(alloc: Global, visit: &PageRequest) -> Result<Vec<u8>, AllocError>
         | PageRequest::Look { .. }
         | PageRequest::Resumed { .. }
         | PageRequest::OtherPerson { .. }
+        | PageRequest::BadForm { .. }
         | PageRequest::Act { .. } => clock_reply(alloc),
     }
 }

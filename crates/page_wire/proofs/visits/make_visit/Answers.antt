@@ -2,9 +2,9 @@
 use Rattle.std.proofs.Common.{◌∙◌, ap, refl, subst, sym}
 use Rattle.page_routes.specs.declared.visit.PageRequest.{PageRequest}
 use Rattle.page_routes.specs.declared.visit.PageRequest.TheVariants.{Look, Act}
-use Rattle.page_routes.specs.declared.visit.PageRequest.TheVariants.{OtherPerson, Resumed}
+use Rattle.page_routes.specs.declared.visit.PageRequest.TheVariants.{OtherPerson, BadForm, Resumed}
 use Rattle.service_core.specs.Seen.{settings_of, tables_of}
-use Rattle.page_wire.specs.Replies.{other_person_reply, resumed_reply}
+use Rattle.page_wire.specs.Replies.{bad_form_reply, other_person_reply, resumed_reply}
 use Rattle.page_wire.specs.Steps.{PageRequestSteps}
 use Rattle.page_wire.proofs.Answering.{act_visit, look_visit, told_visit}
 use Rattle.page_wire.proofs.visits.make_visit.Goals as goal
@@ -45,6 +45,21 @@ returns-in-OtherPerson-Some-clause-ok g c =
     (sym visit) (told, refl))
     (sym c.in-OtherPerson-Some.is-1 ∙ c.new.ensures) c.other_person_reply-made.ensures
     c.put-in-OtherPerson-Some.ensures.ok
+
+pub returns-in-BadForm-Some-clause-ok : goal.returns-in-BadForm-Some-clause-ok
+returns-in-BadForm-Some-clause-ok g c =
+    let s = settings_of g.S.Store c.args.desk.now in
+    let caller = c.as_str-in-BadForm-Some.result.now in
+    let sent = c.in-BadForm-Some.sent in
+    let visit =
+    c.in-BadForm-Some.is-0 ∙ ap (λ n. BadForm n sent) (sym c.as_str-in-BadForm-Some.ensures) in
+    told_visit s c.args.at c.args.visit.now (λ n. bad_form_reply caller n sent)
+    c.in-BadForm-Some.moment c.bad_form_reply-made.result c.put-in-BadForm-Some.result
+    c.put-in-BadForm-Some.new.room (tables_of g.S.Store c.args.desk.now)
+    (λ desk bytes told. subst (λ (v : PageRequest). PageRequestSteps s c.args.at v desk bytes desk)
+    (sym visit) (told, refl))
+    (sym c.in-BadForm-Some.is-1 ∙ c.new.ensures) c.bad_form_reply-made.ensures
+    c.put-in-BadForm-Some.ensures.ok
 
 pub returns-in-Resumed-Some-clause-ok : goal.returns-in-Resumed-Some-clause-ok
 returns-in-Resumed-Some-clause-ok g c =
