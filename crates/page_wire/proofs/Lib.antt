@@ -3,4 +3,5 @@ pub mod AlikePages
 pub mod Answering
 pub mod HeadOnly
 pub mod PageLaws
+pub mod ReplyHeads
 pub mod Steps

@@ -1,4 +1,5 @@
 //! What holds of all pages: the contracts of functions that do nothing.
+ghost use Rattle.page_wire.specs.Heads.{RepliesAreStated};
 ghost use Rattle.page_wire.specs.Laws.{ChangesAreAsked, LooksLeave, OtherSitesLeave, PagesAlike};
 ghost use Rattle.page_wire.specs.Laws.{TextsAlike};
 
@@ -30,4 +31,10 @@ pub fn page_alike_law()
 /// is the same.
 pub fn text_alike_law()
     ensures { TextsAlike }
+{}
+
+/// The head of each reply, read back, has just the stated lines: where it leads, the path is one line and
+/// begins with one slash and no second; its cookie is one value, where that of the visit is.
+pub fn reply_law()
+    ensures { RepliesAreStated }
 {}
