@@ -1,4 +1,4 @@
 pub mod AskLaws
 mod Examples
 mod PathLaws
-mod WayLaws
+pub mod WayLaws

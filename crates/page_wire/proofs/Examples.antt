@@ -13,7 +13,7 @@ use Rattle.desk_model.specs.declared.rows.Turn.TheVariants.{Desk}
 use Rattle.desk_pages.specs.Overtaken.{overtaken_page}
 use Rattle.desk_pages.specs.RefusalPage.{filed_page, replied_page}
 use Rattle.desk_pages.specs.SignIn.{kept_page}
-use Rattle.desk_pages.specs.declared.unsent.Unsent.TheVariants.{Ahead, OtherPerson, Refused}
+use Rattle.desk_pages.specs.declared.unsent.Unsent.TheVariants.{Ahead, BadForm, OtherPerson, Refused}
 use Rattle.message_core.specs.declared.message.Message.{Message}
 use Rattle.page_core.specs.Page.{page_bytes}
 use Rattle.page_routes.specs.declared.next.SubmittedForm.{SubmittedForm}
@@ -21,7 +21,8 @@ use Rattle.page_routes.specs.declared.next.SubmittedForm.TheVariants as sent
 use Rattle.page_wire.specs.Health.{asks_health}
 use Rattle.page_wire.specs.Next.{follow_up_command, next_text}
 use Rattle.page_wire.specs.Redirect.{led_to}
-use Rattle.page_wire.specs.Replies.{done_reply, half_form, other_person_reply, refused_reply}
+use Rattle.page_wire.specs.Replies.{bad_form_reply, done_reply, half_form, other_person_reply}
+use Rattle.page_wire.specs.Replies.{refused_reply}
 use Rattle.page_wire.specs.Replies.{sign_in_form, unsent_form, with_page}
 use Rattle.page_wire.specs.Overtaken.{is_ahead, overtaker, overtakes, told_before}
 use Rattle.page_wire.specs.Twice.{has_moved, is_of, is_status, is_told, told_if_filed, told_request}
@@ -79,6 +80,11 @@ form_of_another_persons_page :
     other_person_reply (codes "ann") 1000 (codes "bob") (sent.Change 7)
     ≡ with_page 409 (page_bytes (unsent_form (codes "ann") 1000 (sent.Change 7) (OtherPerson (codes "bob"))))
 form_of_another_persons_page = refl
+
+form_that_is_not_right :
+    bad_form_reply (codes "ann") 1000 (sent.Change 7)
+    ≡ with_page 400 (page_bytes (unsent_form (codes "ann") 1000 (sent.Change 7) BadForm))
+form_that_is_not_right = refl
 
 -- the text that wasn't sent stands there
 filed_without_its_text :

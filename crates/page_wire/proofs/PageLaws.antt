@@ -39,7 +39,7 @@ use Rattle.page_wire.specs.Steps.{SearchSteps, Stays, Tells, TimedPageSteps}
 
 -- ---- what is looked at stays
 
-by_either : {Goal : Type 0} (b : Bool) (Yes No : Type 0) → (Yes → Goal) → (No → Goal)
+pub by_either : {Goal : Type 0} (b : Bool) (Yes No : Type 0) → (Yes → Goal) → (No → Goal)
     → IfElse b Yes No → Goal
 by_either true Yes No f g steps = f steps
 by_either false Yes No f g steps = g steps

@@ -1,6 +1,7 @@
 pub mod Faults
 pub mod Forms
 pub mod HeadOnly
+pub mod Heads
 pub mod Health
 pub mod Laws
 pub mod Next

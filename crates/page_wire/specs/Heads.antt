@@ -1,0 +1,53 @@
+-- What the replies to pages read as: heads of just the stated lines, and each way leads here.
+use Rattle.std.specs.Prelude.{◌≡◌, ◌⊎◌, ℕ, Bool, true, List, [], IfOk, IfSome, Option, Some, None}
+use Rattle.httparse.specs.Grammar.{RequestHead}
+use Rattle.settings_core.specs.declared.settings.Settings.{Settings}
+use Rattle.desk_model.specs.Desk.{Desk}
+use Rattle.message_core.specs.Head.{StartsWith}
+use Rattle.message_core.specs.Request.{values_in}
+use Rattle.message_core.specs.declared.request.Request.{Request}
+use Rattle.page_reply.specs.Laws.{ReadsAs, cookie_text, is_value, lines_of}
+use Rattle.page_reply.specs.PageReply.{body_of, bytes_of}
+use Rattle.page_reply.specs.declared.reply.PageReply.{PageReply as Given}
+use Rattle.page_routes.specs.Laws.{is_here, is_plain}
+use Rattle.page_routes.specs.Visits.{visit_of}
+use Rattle.page_routes.specs.declared.visit.PageRequest.{PageRequest}
+use Rattle.page_routes.specs.declared.visit.PageRequest.TheVariants as visits
+use Rattle.page_wire.specs.HeadOnly.{head_in}
+use Rattle.page_wire.specs.Steps.{RequestPageSteps}
+use Rattle.page_wire.specs.Visits.{IsSheet}
+
+-- one line, and of this site: it begins with a slash, and no second one
+abbrev pub LeadsHere : List ℕ → Type 0
+LeadsHere path = (is_plain path ≡ true) × (is_here path ≡ true)
+
+abbrev pub IsValue : List ℕ → Type 0
+IsValue text = is_value text ≡ true
+
+-- a reply whose head reads as just its stated lines: where it leads is here, and its cookie is one value
+pub record IsStated (bytes : List ℕ) : Type 0 where
+  pub reply : Given
+  pub is : bytes ≡ bytes_of reply
+  pub reads : ReadsAs bytes (lines_of reply) (body_of reply)
+  pub place : IfSome reply.location LeadsHere
+  pub cookie : IfSome (cookie_text reply.cookie) IsValue
+
+-- such a reply, or the style sheet
+abbrev pub IsPageReply : List ℕ → Type 0
+IsPageReply bytes = IsStated bytes ⊎ IsSheet bytes
+
+-- the cookie that a visit gives
+abbrev pub given : PageRequest → Option (List ℕ)
+given (visits.SignedIn https cookie keep page) = Some cookie
+given (visits.Resumed https caller cookie keep sent) = Some cookie
+given other = None
+
+-- whatever a message asks of the pages, where the cookie that it is given is one value, the bytes told are
+-- such a reply, or its head alone
+abbrev pub RepliesAreStated : Type 0
+RepliesAreStated = (https : Bool) (settings : Settings) (at : ℕ) (request : Request)
+    (head : RequestHead) (old new : Desk) (bytes : List ℕ) → StartsWith request.head head []
+    → IfOk (visit_of https settings at request.message (values_in head))
+    (λ visit. IfSome (given visit) IsValue)
+    → RequestPageSteps https settings at request old bytes new
+    → IsPageReply bytes ⊎ ((whole : List ℕ) × IsPageReply whole × (bytes ≡ head_in whole))
