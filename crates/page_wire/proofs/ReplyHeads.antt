@@ -127,9 +127,11 @@ digit_shown : (b : ℕ) → is_digit b ≡ true → is_shown b ≡ true
 digit_shown b is = grind (arith, nat_tests, is)
 
 to_request : (id : ℕ) → LeadsHere (reply_path id)
-to_request id =
-    (all_both is_shown (decimal id) (codes "#reply")
-    (each_so is_digit is_shown digit_shown (decimal id) (decimal_digits id)) refl, refl)
+to_request id = (
+  all_both is_shown (decimal id) (codes "#reply")
+      (each_so is_digit is_shown digit_shown (decimal id) (decimal_digits id)) refl,
+  refl,
+)
 
 given_stated : (https keep : Bool) (cookie : List ℕ) → IsValue cookie
     → IfSome (cookie_text (cookie_for https keep cookie)) IsValue

@@ -33,15 +33,14 @@ pub fn text_alike_law()
     ensures { TextsAlike }
 {}
 
-<<<<<<< HEAD
 /// No reply has a token: with other tokens in the settings, by which a message asks for the same, its
 /// reply has the same bytes, and its step is the same.
 pub fn token_law()
     ensures { TokensChangeNothing }
-=======
+{}
+
 /// The head of each reply, read back, has just the stated lines: where it leads, the path is one line and
 /// begins with one slash and no second; its cookie is one value, where that of the visit is.
 pub fn reply_law()
     ensures { RepliesAreStated }
->>>>>>> h86
 {}
