@@ -9,8 +9,8 @@ use Rattle.page_wire.specs.Steps.{HomeSteps}
 use Rattle.page_wire.proofs.Steps.{ask_open, homes, left_spared, looked_out, spared_if}
 use Rattle.page_wire.proofs.render.home.Goals as goal
 
-pub home-told-in-Ok-requires : goal.home-told-in-Ok-requires
-home-told-in-Ok-requires g c = ask_open c.args.caller.now c.in-Ok.searches c.in-Ok.ensures
+pub home-told-requires : goal.home-told-requires
+home-told-requires g c = ask_open c.args.caller.now c.in-Ok.searches c.in-Ok.ensures
 
 pub returns-in-Ok : goal.returns-in-Ok
 returns-in-Ok g c =
