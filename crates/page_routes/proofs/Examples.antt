@@ -19,6 +19,7 @@ use Rattle.page_routes.specs.Faults.{name_of, number_of, status_of}
 use Rattle.page_routes.specs.FormArguments.{filled, names_in, needed, others, seen_in, tells_seen}
 use Rattle.page_routes.specs.Fronts.{behind}
 use Rattle.page_routes.specs.HeadBox.{box_page, leads, unmarked, words_query}
+use Rattle.page_routes.specs.Laws.{carried, given}
 use Rattle.page_routes.specs.Paths.{form_path, path_of, reply_path}
 use Rattle.page_routes.specs.Places.{act_named, fixed, is_page_path, method_named, path_in}
 use Rattle.page_routes.specs.Places.{queue_page, takes_post}
@@ -645,3 +646,24 @@ post_of_a_token_at_no_moment :
     (from (codes "same-origin")) ≡ false
 unfolding chars encode is_utf8
 post_of_a_token_at_no_moment settings = refl
+
+-- Laws.antt
+
+form_with_a_command :
+    carried (visits.Act (codes "ann") (command.Take 7) (sends.Change 7)) ≡ Some (sends.Change 7)
+form_with_a_command = refl
+
+form_that_waits_for_who_signs_in :
+    carried (visits.Unknown (nexts.Form (sends.Comment 7 (codes "Hi"))) false)
+    ≡ Some (sends.Comment 7 (codes "Hi"))
+form_that_waits_for_who_signs_in = refl
+
+page_that_waits_has_no_form : carried (visits.Unknown (nexts.Page pages.Home) true) ≡ None
+page_that_waits_has_no_form = refl
+
+cookie_of_who_signs_in :
+    given (visits.SignedIn false (codes "ann.1720.0a") true pages.Home) ≡ Some (codes "ann.1720.0a")
+cookie_of_who_signs_in = refl
+
+no_cookie_of_who_looks : given (visits.Look (codes "ann") pages.Home) ≡ None
+no_cookie_of_who_looks = refl

@@ -1,4 +1,5 @@
 pub mod AskLaws
+pub mod CookieLaws
 mod Examples
 mod PathLaws
 pub mod WayLaws

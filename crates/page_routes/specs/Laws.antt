@@ -4,6 +4,7 @@ use Rattle.std.specs.Prelude.{◌≡◌, ⊤, ℕ, Bool, true, not, ◌&&◌, Li
 use Rattle.std.specs.Prelude.{IfOk, IfSome}
 use Rattle.std.specs.List.{list_all}
 use Rattle.settings_core.specs.declared.settings.Settings.{Settings}
+use Rattle.session_core.specs.Laws.{AreNamed, is_cookie_byte}
 use Rattle.message_core.specs.declared.message.Message.{Message}
 use Rattle.browser_core.specs.Form.{are_once, fields_of, value_of}
 use Rattle.browser_core.specs.declared.form.Field.{Field}
@@ -89,3 +90,17 @@ TextsComeAlong = (https : Bool) (settings : Settings) (at : ℕ) (message : Mess
     → is_own lines ≡ true → fields_of message.body ≡ Some fields → typed_at place fields ≡ Some sent
     → (visit : PageRequest) × (visit_of https settings at message lines ≡ Ok visit)
     × (carried visit ≡ Some sent)
+
+-- ---- cookies
+
+-- the cookie that a visit gives, if one
+abbrev pub given : PageRequest → Option (List ℕ)
+given (visits.SignedIn https cookie keep page) = Some cookie
+given (visits.Resumed https caller cookie keep sent) = Some cookie
+given other = None
+
+-- where each token of the settings stands for a name, it is one text
+abbrev pub CookiesAreTexts : Type 0
+CookiesAreTexts = (https : Bool) (settings : Settings) (at : ℕ) (message : Message) (lines : Lines)
+    → AreNamed settings → IfOk (visit_of https settings at message lines)
+    (λ visit. IfSome (given visit) (λ cookie. list_all is_cookie_byte cookie ≡ true))

@@ -1,5 +1,5 @@
 //! What holds of all messages: the contracts of functions that do nothing.
-ghost use Rattle.page_routes.specs.Laws.{ActsAreAsked, TextsComeAlong, WaysStayHere};
+ghost use Rattle.page_routes.specs.Laws.{ActsAreAsked, CookiesAreTexts, TextsComeAlong, WaysStayHere};
 
 /// Wherever a browser is led, whatever it sent: the path has only bytes that may stand in an address,
 /// so it is one line of a head, and it begins with one slash and no second, so it is of this site.
@@ -18,4 +18,10 @@ pub fn act_law()
 /// into the form that is filled in once more, whatever its other fields are.
 pub fn text_law()
     ensures { TextsComeAlong }
+{}
+
+/// Whoever signs in is given a cookie of only small letters, digits, `-`, `_` and `.`, where each token of the
+/// settings is a person's who has a name.
+pub fn cookie_law()
+    ensures { CookiesAreTexts }
 {}

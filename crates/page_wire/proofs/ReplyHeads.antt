@@ -1,6 +1,6 @@
 -- Each reply to a page has a head that reads as just its stated lines.
-use Rattle.std.proofs.Common.{◌≡◌, ◌∙◌, ◌⊎◌, inl, inr, ℕ, Bool, true, false, ◌&&◌, List, [], ◌∷◌, ◌++◌, append-nil}
-use Rattle.std.proofs.Common.{Option, Some, None, Result, Ok, Err, if◌then◌else◌, codes, decimal, nat_le, refl}
+use Rattle.std.proofs.Common.{◌≡◌, ◌⊎◌, inl, inr, ℕ, Bool, true, false, List, [], append-nil}
+use Rattle.std.proofs.Common.{Option, Some, None, Result, Ok, Err, if◌then◌else◌, codes, decimal, refl}
 use Rattle.std.proofs.Common.{arith, subst, sym}
 use Rattle.std.specs.Prelude.{IfOk, IfSome}
 use Rattle.std.specs.List.{list_all}
@@ -30,15 +30,15 @@ use Rattle.find_form.specs.declared.form.FindForm.{FindForm}
 use Rattle.find_form.specs.declared.shown.Start.{Start}
 use Rattle.find_form.specs.declared.shown.Start.TheVariants.{First}
 use Rattle.message_core.specs.Request.{values_in}
-use Rattle.page_core.specs.Page.{Part, page_bytes}
-use Rattle.page_reply.specs.Laws.{IsTellable, cookie_text, is_page_code, is_printed, is_value}
+use Rattle.page_core.specs.Page.{page_bytes}
+use Rattle.page_reply.specs.Laws.{cookie_text, is_page_code, is_printed}
 use Rattle.page_reply.specs.PageReply.{bytes_of, way_to}
 use Rattle.page_reply.specs.declared.reply.CookieChange.{CookieChange}
-use Rattle.page_reply.specs.declared.reply.CookieChange.TheVariants.{Keep, Session, Stay, Forget}
+use Rattle.page_reply.specs.declared.reply.CookieChange.TheVariants.{Keep, Forget}
 use Rattle.page_reply.specs.declared.reply.PageReply.{PageReply as Given}
 use Rattle.page_reply.proofs.HeadLaws.{all_both, decimal_digits, each_so, heads_read_as_stated}
 use Rattle.page_routes.specs.Faults.{status_of}
-use Rattle.page_routes.specs.Laws.{StaysHere, is_here, is_plain, led}
+use Rattle.page_routes.specs.Laws.{StaysHere, led}
 use Rattle.page_routes.specs.Paths.{path_of, reply_path}
 use Rattle.page_routes.specs.Places.{is_shown}
 use Rattle.page_routes.specs.Visits.{Answer as Visited, visit_of}
@@ -54,10 +54,10 @@ use Rattle.page_routes.specs.declared.visit.PageRequest.{PageRequest}
 use Rattle.page_routes.specs.declared.visit.PageRequest.TheVariants as visit
 use Rattle.page_routes.proofs.WayLaws.{ways_stay_here}
 use Rattle.wire_core.specs.Replies.{code_of_refusal, is_head}
-use Rattle.page_wire.specs.Faults.{clock_code, clock_heading, clock_reply, clock_sentence, code_of, fault_reply}
+use Rattle.page_wire.specs.Faults.{clock_code, clock_heading, clock_reply, clock_sentence, code_of}
 use Rattle.page_wire.specs.Faults.{heading_of, methods_told, sentence_of}
 use Rattle.desk_pages.specs.Fault.{fault_page}
-use Rattle.page_wire.specs.Forms.{AfterFirst, FormSteps, IsTold, SecondSteps, StepsOnce, StepsUnless}
+use Rattle.page_wire.specs.Forms.{AfterFirst, IsTold, SecondSteps, StepsOnce, StepsUnless}
 use Rattle.page_wire.specs.Forms.{StepsUnrefused, UnlessTold, refused_before}
 use Rattle.page_wire.specs.HeadOnly.{head_in, told_of}
 use Rattle.page_wire.specs.Heads.{IsPageReply, IsStated, IsValue, LeadsHere, RepliesAreStated, given}
@@ -66,8 +66,8 @@ use Rattle.page_wire.specs.Overtaken.{ahead_reply, held_reply, is_ahead, overtak
 use Rattle.page_wire.specs.Redirect.{led_by}
 use Rattle.page_wire.specs.Replies as replies
 use Rattle.page_wire.specs.Replies.{cookie_for, leads_to, sign_in, unsent_form, with_cookie, with_page}
-use Rattle.page_wire.specs.Steps.{FindSteps, IfElse, LookSteps, PageRequestSteps, PageSteps, SearchFormSteps}
-use Rattle.page_wire.specs.Steps.{SearchSteps, Stays, TimedPageSteps}
+use Rattle.page_wire.specs.Steps.{FindSteps, LookSteps, PageRequestSteps, PageSteps, SearchFormSteps}
+use Rattle.page_wire.specs.Steps.{SearchSteps, TimedPageSteps}
 use Rattle.page_wire.specs.Twice.{is_told, told_request}
 use Rattle.page_wire.specs.Visits.{IsFixed}
 use Rattle.page_wire.proofs.PageLaws.{by_either}

@@ -1,10 +1,11 @@
--- Examples of the definitions: what a MAC is over, which number stands in a cookie, and when a
--- session is open.
+-- Examples of the definitions: what a MAC is over, which number stands in a cookie, when a session is
+-- open, and which bytes a cookie has.
 use Rattle.std.specs.Prelude.{◌≡◌, refl, true, false, [], ◌∷◌, length, codes, Some, None}
 use Rattle.std.specs.Fmt.{digits}
 use Rattle.std.specs.Str.{chars, is_utf8}
 use lib.Utf8.{encode}
 use Rattle.session_core.specs.Hmac.{filled, padded}
+use Rattle.session_core.specs.Laws.{is_cookie_byte}
 use Rattle.session_core.specs.Seal.{ends_in, named, number_behind, signed}
 use Rattle.session_core.specs.Sessions.{is_open, is_open_to, minutes_of}
 use Rattle.session_core.specs.declared.session.Lasts.TheVariants.{Day, Month}
@@ -74,3 +75,20 @@ end_that_no_session_has = refl
 
 no_end : is_open_to 1000 None ≡ false
 no_end = refl
+
+-- Laws.antt
+
+hyphen_of_a_name : is_cookie_byte 45 ≡ true
+hyphen_of_a_name = refl
+
+stop_between_two_parts : is_cookie_byte 46 ≡ true
+stop_between_two_parts = refl
+
+slash_is_none_of_a_cookie : is_cookie_byte 47 ≡ false
+slash_is_none_of_a_cookie = refl
+
+semicolon_is_none_of_a_cookie : is_cookie_byte 59 ≡ false
+semicolon_is_none_of_a_cookie = refl
+
+line_feed_is_none_of_a_cookie : is_cookie_byte 10 ≡ false
+line_feed_is_none_of_a_cookie = refl

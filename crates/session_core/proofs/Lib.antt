@@ -3,3 +3,4 @@ mod Examples
 pub mod Numbers
 pub mod Seals
 pub mod Sessions
+pub mod Texts

@@ -7,21 +7,19 @@ use Rattle.std.proofs.lemmas.Bool.{and_from, and_parts, cases_Bool, leb-true, le
 use Rattle.std.proofs.lemmas.List.Elements.{Contains-append_cases, Contains-append_left}
 use Rattle.std.proofs.lemmas.List.Elements.{Contains-append_right, Contains-push, Contains-push_cases}
 use Rattle.std.proofs.lemmas.Option.{none-some, same_Some}
-use Rattle.std.specs.Str.{bytes_eq}
-use Rattle.hours_core.specs.Moment.{IsDueMoment}
 use Rattle.settings_parts.specs.declared.people.Token.{Token}
 use Rattle.settings_core.specs.Settings.{tokens_of}
 use Rattle.settings_core.specs.declared.settings.Settings.{Settings}
 use Rattle.session_core.specs.Laws.{CallersAreThose, CookiesNeedTheirToken, SessionsAreReadBack, StandsFor}
 use Rattle.session_core.specs.Seal.{mac_of, opened, sealed}
-use Rattle.session_core.specs.Sessions.{caller_of, is_open, is_open_to, made, minutes_of, seals, token_typed}
+use Rattle.session_core.specs.Sessions.{caller_of, is_open, is_open_to, made, minutes_of, seals}
 use Rattle.session_core.specs.declared.session.Lasts.{Lasts}
 use Rattle.session_core.specs.declared.session.Lasts.TheVariants.{Day, Month}
 use Rattle.session_core.proofs.Seals.{one_sealed, opened_is, opened_sealed}
 
 -- ---- options and lists
 
-map_some : {X Y : Type 0} (f : X → Y) (o : Option X) (y : Y) → option_map f o ≡ Some y
+pub map_some : {X Y : Type 0} (f : X → Y) (o : Option X) (y : Y) → option_map f o ≡ Some y
     → (x : X) × (o ≡ Some x) × (f x ≡ y)
 map_some f None y h = absurd (none-some y h)
 map_some f (Some x) y h = (x, refl, same_Some (f x) y h)
@@ -46,7 +44,7 @@ picked true y x rest h = inl (refl, same_Some y x h)
 picked false y x rest h = inr h
 
 -- what is found is of the list, and passes
-found_is : {X : Type 0} (p : X → Bool) (xs : List X) (x : X) → find p xs ≡ Some x
+pub found_is : {X : Type 0} (p : X → Bool) (xs : List X) (x : X) → find p xs ≡ Some x
     → Contains xs x × (p x ≡ true)
 found_is p [] x h = absurd (none-some x h)
 found_is p (y ∷ ys) x h =
@@ -174,7 +172,7 @@ callers_are_those settings cookie now person = (
       ∙ ap (λ (p : List ℕ). Some p) h.of_person,
 )
 
-few_minutes : (lasts : Lasts) → minutes_of lasts ≤ 43200
+pub few_minutes : (lasts : Lasts) → minutes_of lasts ≤ 43200
 few_minutes Day = omega arith
 few_minutes Month = omega arith
 

@@ -1,6 +1,8 @@
 -- What cookies mean, apart from how they are read.
-use Rattle.std.specs.Prelude.{◌≡◌, ◌↔◌, ℕ, ◌+◌, ◌<◌, ◌≤◌, ◌^◌, if◌then◌else◌, List, Some, None}
-use Rattle.std.specs.List.{Contains}
+use Rattle.std.specs.Prelude.{◌≡◌, ◌↔◌, ℕ, ◌+◌, ◌<◌, ◌≤◌, ◌^◌, ◌==◌, Bool, true, ◌||◌, if◌then◌else◌}
+use Rattle.std.specs.Prelude.{List, Some, None}
+use Rattle.std.specs.List.{Contains, list_all}
+use Rattle.text_core.specs.Form.{is_name, is_name_byte}
 use Rattle.hours_core.specs.Moment.{IsDueMoment}
 use Rattle.settings_parts.specs.declared.people.Token.{Token}
 use Rattle.settings_core.specs.Settings.{tokens_of}
@@ -34,6 +36,20 @@ SessionsAreReadBack = (settings later : Settings) (typed cookie : List ℕ) (tok
     → signed_in settings typed began lasts ≡ Some cookie → Contains (tokens_of later) token
     → caller_of later cookie now
     ≡ (if is_open now (began + minutes_of lasts) then Some token.person else None)
+
+-- a byte of a name, or the full stop between the parts: none of them ends the text of a cookie, or a line
+abbrev pub is_cookie_byte : ℕ → Bool
+is_cookie_byte b = is_name_byte b || (b == 46)
+
+-- whoever a token stands for has a name
+abbrev pub AreNamed : Settings → Type 0
+AreNamed settings = (token : Token) → Contains (tokens_of settings) token → is_name token.person ≡ true
+
+-- then what one who signs in is given has such bytes alone
+abbrev pub CookiesAreTexts : Type 0
+CookiesAreTexts = (settings : Settings) (typed cookie : List ℕ) (lasts : Lasts) (now : ℕ)
+    → AreNamed settings → IsDueMoment now → signed_in settings typed now lasts ≡ Some cookie
+    → list_all is_cookie_byte cookie ≡ true
 
 -- whoever a token's cookie stands for under any settings is the token's person, by a token of the
 -- settings that makes the same MAC

@@ -20,3 +20,9 @@ pub fn read_back_law()
 pub fn token_law()
     ensures { laws.CookiesNeedTheirToken }
 {}
+
+/// Where each token of the settings is a person's who has a name, what one who signs in is given has
+/// only small letters, digits, `-`, `_` and `.`: none of them ends the text of a cookie, or a line.
+pub fn text_law()
+    ensures { laws.CookiesAreTexts }
+{}
