@@ -68,7 +68,7 @@ use Rattle.page_wire.specs.Replies as replies
 use Rattle.page_wire.specs.Replies.{cookie_for, leads_to, sign_in, unsent_form, with_cookie, with_page}
 use Rattle.page_wire.specs.Steps.{FindSteps, LookSteps, PageRequestSteps, PageSteps, SearchFormSteps}
 use Rattle.page_wire.specs.Steps.{SearchSteps, TimedPageSteps}
-use Rattle.page_wire.specs.Twice.{is_told, told_request}
+use Rattle.page_wire.specs.Twice.{is_told, told_if_filed, told_request}
 use Rattle.page_wire.specs.Visits.{IsFixed}
 use Rattle.page_wire.proofs.PageLaws.{by_either}
 
@@ -280,6 +280,12 @@ told_stated caller at sent (Ok dossier) =
 told_stated caller at sent (Err refusal.Unavailable) = again_stated caller at sent refusal.Unavailable
 told_stated caller at sent (Err other) = tt
 
+filed_stated : (caller : List ℕ) (at : ℕ) (sent : SubmittedForm) (found : Result (Option ℕ) Refusal)
+    → IfSome (told_if_filed caller at sent found) IsStated
+filed_stated caller at sent (Ok None) = tt
+filed_stated caller at sent (Ok (Some id)) = done_stated sent (answer.Created id)
+filed_stated caller at sent (Err r) = again_stated caller at sent r
+
 module _ (s : Settings) (at : ℕ) (caller : List ℕ) (bytes : List ℕ) where
   second_told : (sent : SubmittedForm) (a : Answer) (outcome : Outcome)
       → IsTold caller at sent a outcome bytes → IsStated bytes
@@ -309,7 +315,9 @@ module _ (s : Settings) (at : ℕ) (caller : List ℕ) (bytes : List ℕ) where
 
   once_stated : (command : Command) (sent : SubmittedForm) (id : Option ℕ) (old new : Desk)
       → StepsOnce s at caller command sent id old bytes new → IsStated bytes
-  once_stated command sent None old new steps = unrefused_stated command sent old new steps
+  once_stated command sent None old new steps =
+      unless_stated command sent (told_if_filed caller at sent steps.0) old new
+      (filed_stated caller at sent steps.0) steps.2
   once_stated command sent (Some id) old new steps =
       unless_stated command sent (told_before caller at sent steps.0) old new
       (told_stated caller at sent steps.0) steps.2
