@@ -1,7 +1,7 @@
 -- Each reply to a page has a head that reads as just its stated lines.
 use Rattle.std.proofs.Common.{◌≡◌, ◌⊎◌, inl, inr, ℕ, Bool, true, false, List, [], append-nil}
 use Rattle.std.proofs.Common.{Option, Some, None, Result, Ok, Err, if◌then◌else◌, codes, decimal, refl}
-use Rattle.std.proofs.Common.{arith, subst, sym}
+use Rattle.std.proofs.Common.{arith, not, subst, sym, ◌==◌, ◌&&◌}
 use Rattle.std.specs.Prelude.{IfOk, IfSome}
 use Rattle.std.specs.List.{list_all}
 use Rattle.std.proofs.lemmas.Bool.Decides.{nat_tests}
@@ -38,7 +38,7 @@ use Rattle.page_reply.specs.declared.reply.CookieChange.TheVariants.{Keep, Forge
 use Rattle.page_reply.specs.declared.reply.PageReply.{PageReply as Given}
 use Rattle.page_reply.proofs.HeadLaws.{all_both, decimal_digits, each_so, heads_read_as_stated}
 use Rattle.page_routes.specs.Faults.{status_of}
-use Rattle.page_routes.specs.Laws.{StaysHere, led}
+use Rattle.page_routes.specs.Laws.{StaysHere, given, led}
 use Rattle.page_routes.specs.Paths.{path_of, reply_path}
 use Rattle.page_routes.specs.Places.{is_shown}
 use Rattle.page_routes.specs.Visits.{Answer as Visited, visit_of}
@@ -52,7 +52,9 @@ use Rattle.page_routes.specs.declared.page.Page as routes
 use Rattle.page_routes.specs.declared.page.Page.TheVariants as page
 use Rattle.page_routes.specs.declared.visit.PageRequest.{PageRequest}
 use Rattle.page_routes.specs.declared.visit.PageRequest.TheVariants as visit
+use Rattle.page_routes.proofs.CookieLaws.{cookies_are_texts_here}
 use Rattle.page_routes.proofs.WayLaws.{ways_stay_here}
+use Rattle.session_core.specs.Laws.{is_cookie_byte}
 use Rattle.wire_core.specs.Replies.{code_of_refusal, is_head}
 use Rattle.page_wire.specs.Faults.{clock_code, clock_heading, clock_reply, clock_sentence, code_of}
 use Rattle.page_wire.specs.Faults.{heading_of, methods_told, sentence_of}
@@ -60,7 +62,7 @@ use Rattle.desk_pages.specs.Fault.{fault_page}
 use Rattle.page_wire.specs.Forms.{AfterFirst, IsTold, SecondSteps, StepsOnce, StepsUnless}
 use Rattle.page_wire.specs.Forms.{StepsUnrefused, UnlessTold, refused_before}
 use Rattle.page_wire.specs.HeadOnly.{head_in, told_of}
-use Rattle.page_wire.specs.Heads.{IsPageReply, IsStated, IsValue, LeadsHere, RepliesAreStated, given}
+use Rattle.page_wire.specs.Heads.{IsPageReply, IsStated, IsValue, LeadsHere, RepliesAreStated}
 use Rattle.page_wire.specs.Next.{follow_up_command}
 use Rattle.page_wire.specs.Overtaken.{ahead_reply, held_reply, is_ahead, overtaken_reply, overtaker, told_before}
 use Rattle.page_wire.specs.Redirect.{led_by}
@@ -413,8 +415,22 @@ answer_stated s at h (Err f) old new bytes one here steps =
 answer_stated s at h (Ok v) old new bytes one here steps =
     by_head h steps.0 bytes (timed_stated s at v old new steps.0 one here steps.1) steps.2
 
+text_value : (cookie : Option (List ℕ)) → IfSome cookie (λ text. list_all is_cookie_byte text ≡ true)
+    → IfSome cookie IsValue
+text_value None is = tt
+text_value (Some text) is =
+    each_so is_cookie_byte (λ b. is_printed b && not (b == 59)) (λ b one. grind (arith, nat_tests, one))
+    text is
+
+values : (visited : Visited)
+    → IfOk visited (λ v. IfSome (given v) (λ text. list_all is_cookie_byte text ≡ true))
+    → IfOk visited (λ v. IfSome (given v) IsValue)
+values (Err f) texts = tt
+values (Ok v) texts = text_value (given v) texts
+
 pub replies_are_stated : RepliesAreStated
-replies_are_stated https s at request head old new bytes starts one steps =
+replies_are_stated https s at request head old new bytes starts are steps =
     let visited = visit_of https s at request.message (values_in head) in
-    answer_stated s at (is_head request.message) visited old new bytes one
+    answer_stated s at (is_head request.message) visited old new bytes
+    (values visited (cookies_are_texts_here https s at request.message (values_in head) are))
     (ways_stay_here https s at request.message (values_in head)) (steps head starts)

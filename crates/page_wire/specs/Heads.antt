@@ -1,18 +1,15 @@
 -- What the replies to pages read as: heads of just the stated lines, and each way leads here.
-use Rattle.std.specs.Prelude.{◌≡◌, ◌⊎◌, ℕ, Bool, true, List, [], IfOk, IfSome, Option, Some, None}
+use Rattle.std.specs.Prelude.{◌≡◌, ◌⊎◌, ℕ, Bool, true, List, [], IfSome}
 use Rattle.httparse.specs.Grammar.{RequestHead}
 use Rattle.settings_core.specs.declared.settings.Settings.{Settings}
+use Rattle.session_core.specs.Laws.{AreNamed}
 use Rattle.desk_model.specs.Desk.{Desk}
 use Rattle.message_core.specs.Head.{StartsWith}
-use Rattle.message_core.specs.Request.{values_in}
 use Rattle.message_core.specs.declared.request.Request.{Request}
 use Rattle.page_reply.specs.Laws.{ReadsAs, cookie_text, is_value, lines_of}
 use Rattle.page_reply.specs.PageReply.{body_of, bytes_of}
 use Rattle.page_reply.specs.declared.reply.PageReply.{PageReply as Given}
 use Rattle.page_routes.specs.Laws.{is_here, is_plain}
-use Rattle.page_routes.specs.Visits.{visit_of}
-use Rattle.page_routes.specs.declared.visit.PageRequest.{PageRequest}
-use Rattle.page_routes.specs.declared.visit.PageRequest.TheVariants as visits
 use Rattle.page_wire.specs.HeadOnly.{head_in}
 use Rattle.page_wire.specs.Steps.{RequestPageSteps}
 use Rattle.page_wire.specs.Visits.{IsSheet}
@@ -36,18 +33,10 @@ pub record IsStated (bytes : List ℕ) : Type 0 where
 abbrev pub IsPageReply : List ℕ → Type 0
 IsPageReply bytes = IsStated bytes ⊎ IsSheet bytes
 
--- the cookie that a visit gives
-abbrev pub given : PageRequest → Option (List ℕ)
-given (visits.SignedIn https cookie keep page) = Some cookie
-given (visits.Resumed https caller cookie keep sent) = Some cookie
-given other = None
-
--- whatever a message asks of the pages, where the cookie that it is given is one value, the bytes told are
--- such a reply, or its head alone
+-- whatever a message asks of the pages, where each token of the settings stands for a name, the bytes told
+-- are such a reply, or its head alone
 abbrev pub RepliesAreStated : Type 0
 RepliesAreStated = (https : Bool) (settings : Settings) (at : ℕ) (request : Request)
     (head : RequestHead) (old new : Desk) (bytes : List ℕ) → StartsWith request.head head []
-    → IfOk (visit_of https settings at request.message (values_in head))
-    (λ visit. IfSome (given visit) IsValue)
-    → RequestPageSteps https settings at request old bytes new
+    → AreNamed settings → RequestPageSteps https settings at request old bytes new
     → IsPageReply bytes ⊎ ((whole : List ℕ) × IsPageReply whole × (bytes ≡ head_in whole))

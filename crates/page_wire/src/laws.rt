@@ -40,7 +40,8 @@ pub fn token_law()
 {}
 
 /// The head of each reply, read back, has just the stated lines: where it leads, the path is one line and
-/// begins with one slash and no second; its cookie is one value, where that of the visit is.
+/// begins with one slash and no second; and its cookie is one value, where each token of the settings is a
+/// person's who has a name.
 pub fn reply_law()
     ensures { RepliesAreStated }
 {}
