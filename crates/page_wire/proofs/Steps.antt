@@ -14,7 +14,6 @@ use Rattle.desk_model.specs.declared.answer.Dossier.{Dossier}
 use Rattle.desk_model.specs.declared.command.Command.{Command}
 use Rattle.desk_model.specs.declared.refusal.Refusal.{Refusal}
 use Rattle.desk_model.specs.declared.refusal.Refusal.TheVariants.{Unavailable}
-use Rattle.find_core.specs.Home.{AskOpen}
 use Rattle.find_core.specs.declared.home.Home.{Home}
 use Rattle.find_core.specs.declared.home.HomeSearches.{HomeSearches}
 use Rattle.find_core.specs.declared.search.Findings.{Findings}
@@ -129,15 +128,6 @@ homes s at caller told (Ok out) old new tells shown =
       own.1,
     )
 homes s at caller told (Err e) old new tells shown = tt
-
--- each search of the first page is for what is open
-pub ask_open : (caller : List ℕ) (searches : HomeSearches) → searches ≡ home_searches caller
-    → AskOpen searches
-ask_open caller searches same = record {
-  own = ap (λ (s : HomeSearches). s.own.status) same;
-  asked = ap (λ (s : HomeSearches). s.asked.status) same;
-  free = ap (λ (s : HomeSearches). s.free.status) same;
-}
 
 -- the page of what is found
 pub finds : {A E : Type 0} (s : Settings) (at : ℕ) (caller : List ℕ) (start : Start)

@@ -6,11 +6,8 @@ use Rattle.service_core.specs.Homes.{HomeOn, part_of}
 use Rattle.service_core.specs.Seen.{settings_of, tables_of}
 use Rattle.page_wire.specs.Replies.{home_reply}
 use Rattle.page_wire.specs.Steps.{HomeSteps}
-use Rattle.page_wire.proofs.Steps.{ask_open, homes, left_spared, looked_out, spared_if}
+use Rattle.page_wire.proofs.Steps.{homes, left_spared, looked_out, spared_if}
 use Rattle.page_wire.proofs.render.home.Goals as goal
-
-pub home-told-requires : goal.home-told-requires
-home-told-requires g c = ask_open c.args.caller.now c.in-Ok.searches c.in-Ok.ensures
 
 pub returns-in-Ok : goal.returns-in-Ok
 returns-in-Ok g c =
