@@ -44,8 +44,24 @@ pub struct Unknown<'r> {
     pub name: &'r str,
 }
 
-/// The first queue whose lifecycle or level the settings don't know, and that name.
-pub fn unknown_queue<'r>(settings: &Settings, queues: &'r [QueueRow]) -> Option<Unknown<'r>>
+/// The first queue whose lifecycle or level the settings don't know, or else the first request whose
+/// status isn't one of the lifecycle of its queue, among these, or whose level or owner they don't
+/// know, and that name.
+pub fn unknown_row<'r>(
+    settings: &Settings,
+    queues: &'r [QueueRow],
+    requests: &'r [RequestRow],
+) -> Option<Unknown<'r>>
+    ensures { option_map spec.seen result
+        ≡ spec.unknown_row settings.now queues.now requests.now }
+{
+    match unknown_queue(settings, queues) {
+        Some(unknown) => Some(unknown),
+        None => unknown_request(settings, queues, requests),
+    }
+}
+
+fn unknown_queue<'r>(settings: &Settings, queues: &'r [QueueRow]) -> Option<Unknown<'r>>
     ensures { option_map spec.seen result ≡ spec.unknown_queue settings.now queues.now }
 {
     for queue in queues {
@@ -83,9 +99,7 @@ fn unknown_level<'r>(settings: &Settings, level: &'r Option<Text>) -> Option<(Wh
     }
 }
 
-/// The first request whose status isn't one of the lifecycle of its queue, among these, or whose
-/// level or owner the settings don't know, and that name.
-pub fn unknown_request<'r>(
+fn unknown_request<'r>(
     settings: &Settings,
     queues: &[QueueRow],
     requests: &'r [RequestRow],
