@@ -120,19 +120,42 @@ told_after {r = r} kept same it = record {
 }
 
 -- what is found in what was read
-pub told_by : {A : Type 0} {name : Desk → Option Unknown} {a b : State} {u : Option UnknownInCode}
-    {r : Result (Option (String A)) StoreFault} → LeavesTables a b
+pub told_by : {A : Type 0} {name : Desk → Option Unknown} {a b : State}
+    {r : Result (Option (String A)) StoreFault} (u : Option UnknownInCode) → LeavesTables a b
     → ((desk : Desk) → IsDesk desk → Represents desk a → HasCleanDisk b
     → option_map seen u ≡ name desk)
     → IfOk r (λ told. option_map string_bytes told ≡ option_map (λ f. unknown_text (seen f)) u)
     → IfErr r (λ e. e ≡ Refused) → TellsUnknown name a b r
-told_by {u = u} {r} kept same words fault = record {
+told_by {r = r} u kept same words fault = record {
   told = λ desk is stand clean.
       if_ok r
       (λ found its. its ∙ words_of u ∙ ap (option_map unknown_text) (same desk is stand clean))
       words;
   kept = kept;
   blames = blames_refused r fault;
+}
+
+-- none is told, and then the first of others
+pub second_of : {A : Type 0} {name other : Desk → Option Unknown} {a b c : State}
+    {r : Result (Option (String A)) StoreFault} → TellsUnknown {A = A} name a b (Ok None)
+    → TellsUnknown other b c r → TellsUnknown (λ desk. option_or (name desk) (other desk)) a c r
+second_of {name = name} {other} first second =
+    told_after first.kept
+    (λ desk is stand clean.
+    sym (ap (λ o. option_or o (other desk))
+    (none_told unknown_text (name desk) (first.told desk is stand clean))))
+    second
+
+-- the first is told
+pub first_of : {A : Type 0} {name : Desk → Option Unknown} {a b : State} {told : String A}
+    (other : Desk → Option Unknown) → TellsUnknown {A = A} name a b (Ok (Some told))
+    → TellsUnknown {A = A} (λ desk. option_or (name desk) (other desk)) a b (Ok (Some told))
+first_of {name = name} {told = told} other it = record {
+  told = λ desk is stand clean.
+      first_told unknown_text (name desk) (other desk) (string_bytes told)
+      (it.told desk is stand clean);
+  kept = it.kept;
+  blames = record { known = tt; mismatch = tt };
 }
 
 -- ---- of the histories of requests, one after another
@@ -158,10 +181,10 @@ abbrev pub IsToldAt : {A : Type 0} → Settings → RequestRow → State → Sta
 IsToldAt s request old new result =
     TellsUnknown (λ desk. unknown_entry s (history_at desk request.id)) old new result
 
-module _ {A : Type 0} (s : Settings) (requests : List RequestRow) (i : ℕ) {old mid : State}
+module _ (s : Settings) (requests : List RequestRow) (i : ℕ) {old mid : State}
     (left : HistoriesLeft s requests i old mid)
   where
-    pub none_left : length requests ≤ i → IsToldOf {A = A} s requests old mid (Ok None)
+    pub none_left : {A : Type 0} → length requests ≤ i → IsToldOf {A = A} s requests old mid (Ok None)
     none_left past = record {
       told = λ desk is stand clean.
           ap (option_map unknown_text)
@@ -173,7 +196,7 @@ module _ {A : Type 0} (s : Settings) (requests : List RequestRow) (i : ℕ) {old
     }
 
     module _ (request : RequestRow) (low : i < length requests)
-        (is_next : request ≡ get_or requests i request) {new : State}
+        (is_next : request ≡ get_or requests i request)
       where
         abbrev later : Desk → List Entry
         later desk = histories (drop (i + 1) requests) desk
@@ -187,36 +210,38 @@ module _ {A : Type 0} (s : Settings) (requests : List RequestRow) (i : ℕ) {old
             (rest_of requests i request low is_next)
             ∙ left.rest desk is stand clean
 
-        pub next_left : IsToldAt {A = A} s request mid new (Ok None)
-            → HistoriesLeft s requests (i + 1) old new
-        next_left it = record {
-          kept = joined left.kept it.kept;
-          rest = λ desk is stand clean.
-              let none = none_told unknown_text (unknown_entry s (history_at desk request.id))
-              (it.told desk is (stands_for left.kept desk stand) clean) in
-              sym (ap (λ o. option_or o (unknown_entry s (later desk))) none)
-              ∙ in_two desk is stand (it.kept.clean clean);
-        }
+        module _ {A : Type 0} {new : State} where
+          pub next_left : IsToldAt {A = A} s request mid new (Ok None)
+              → HistoriesLeft s requests (i + 1) old new
+          next_left it = record {
+            kept = joined left.kept it.kept;
+            rest = λ desk is stand clean.
+                let none = none_told unknown_text (unknown_entry s (history_at desk request.id))
+                (it.told desk is (stands_for left.kept desk stand) clean) in
+                sym (ap (λ o. option_or o (unknown_entry s (later desk))) none)
+                ∙ in_two desk is stand (it.kept.clean clean);
+          }
 
-        pub some_left : {told : String A} → IsToldAt s request mid new (Ok (Some told))
-            → IsToldOf s requests old new (Ok (Some told))
-        some_left {told} it = record {
-          told = λ desk is stand clean.
-              first_told unknown_text (unknown_entry s (history_at desk request.id))
-              (unknown_entry s (later desk)) (string_bytes told)
-              (it.told desk is (stands_for left.kept desk stand) clean)
-              ∙ ap (option_map unknown_text) (in_two desk is stand (it.kept.clean clean));
-          kept = joined left.kept it.kept;
-          blames = record { known = tt; mismatch = tt };
-        }
+          pub some_left : {told : String A} → IsToldAt {A = A} s request mid new (Ok (Some told))
+              → IsToldOf {A = A} s requests old new (Ok (Some told))
+          some_left {told} it = record {
+            told = λ desk is stand clean.
+                first_told unknown_text (unknown_entry s (history_at desk request.id))
+                (unknown_entry s (later desk)) (string_bytes told)
+                (it.told desk is (stands_for left.kept desk stand) clean)
+                ∙ ap (option_map unknown_text) (in_two desk is stand (it.kept.clean clean));
+            kept = joined left.kept it.kept;
+            blames = record { known = tt; mismatch = tt };
+          }
 
-        pub fault_left : {e : StoreFault} {r : Result (Option (String A)) StoreFault}
-            → IsToldAt s request mid new (Err e) → r ≡ Err e → IsToldOf s requests old new r
-        fault_left it is = record {
-          told = λ desk d stand clean. rw is tt;
-          kept = joined left.kept it.kept;
-          blames = blames_failed (blames_after left.kept it.kept.clean it.blames) is;
-        }
+          pub fault_left : {e : StoreFault} {r : Result (Option (String A)) StoreFault}
+              → IsToldAt {A = A} s request mid new (Err e) → r ≡ Err e
+              → IsToldOf {A = A} s requests old new r
+          fault_left it is = record {
+            told = λ desk d stand clean. rw is tt;
+            kept = joined left.kept it.kept;
+            blames = blames_failed (blames_after left.kept it.kept.clean it.blames) is;
+          }
 
 -- ---- of a desk that has such a name
 
@@ -229,3 +254,8 @@ none_lacked s told it desk is stand lacks clean =
 pub first_lacked : {A : Type 0} (s : Settings) {old new : State} {told : String A}
     → TellsUnknown (first_unknown s) old new (Ok (Some told)) → TellsName s old new (string_bytes told)
 first_lacked s it desk is stand lacks clean = sym (it.told desk is stand clean)
+
+-- what is so of whatever is answered
+pub if_any : {T E : Type 0} {P : T → Type 0} (r : Result T E) → ((x : T) → P x) → IfOk r P
+if_any (Ok x) all = all x
+if_any (Err e) all = tt

@@ -16,8 +16,9 @@ use Rattle.desk_model.specs.declared.rows.QueueRow.{QueueRow}
 use Rattle.desk_model.specs.declared.rows.RequestRow.{RequestRow}
 use Rattle.desk_model.specs.declared.rows.Watcher.{Watcher}
 use Rattle.store_tables.specs.Contents.{entries, request_rows, watchers}
+use Rattle.service_core.specs.Attaching.{of_queues}
 use Rattle.service_core.proofs.KnownLemmas.{persons_of_all}
-use Rattle.check_core.specs.Rows.{FirstUnknownLaw, Unknown, first_unknown, knows_status, of_queues}
+use Rattle.check_core.specs.Rows.{FirstUnknownLaw, first_unknown, knows_status}
 use Rattle.check_core.specs.Rows.{unknown_entry, unknown_level, unknown_of_queue}
 use Rattle.check_core.specs.Rows.{unknown_of_request, unknown_owner, unknown_queue}
 use Rattle.check_core.specs.Rows.{unknown_request, unknown_row, unknown_watcher}

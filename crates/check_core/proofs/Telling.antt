@@ -1,6 +1,6 @@
 -- What is told of tables, by what was read of them.
 use Rattle.std.proofs.Common.{◌≡◌, false, inr, ap, ◌∙◌, sym}
-use Rattle.std.proofs.Common.{Err, Option, Result, Some}
+use Rattle.std.proofs.Common.{ℕ, Err, List, Option, Result, Some}
 use Rattle.std.specs.Prelude.{⊤}
 use Rattle.sqlite.specs.State.{State, HasCleanDisk}
 use Rattle.settings_core.specs.declared.settings.Settings.{Settings}

@@ -4,6 +4,7 @@ pub mod Files
 pub mod Inside
 pub mod Rows
 pub mod Tables
+pub mod Told
 pub mod Typed
 pub mod Weak
 pub mod Words

@@ -4,7 +4,7 @@ use Rattle.std.specs.Prelude.{if◌then◌else◌}
 use Rattle.std.specs.Option.{option_map, option_or}
 use Rattle.settings_core.specs.Settings.{knows, level_named, lifecycle_named}
 use Rattle.settings_core.specs.declared.settings.Settings.{Settings}
-use Rattle.desk_model.specs.Desk.{Desk, empty_desk}
+use Rattle.desk_model.specs.Desk.{Desk}
 use Rattle.desk_model.specs.Known as known
 use Rattle.desk_model.specs.declared.rows.Entry.{Entry}
 use Rattle.desk_model.specs.declared.rows.QueueRow.{QueueRow}
@@ -13,6 +13,7 @@ use Rattle.desk_model.specs.declared.rows.WatchRole.{WatchRole}
 use Rattle.desk_model.specs.declared.rows.WatchRole.TheVariants as role
 use Rattle.desk_model.specs.declared.rows.Watcher.{Watcher}
 use Rattle.store_tables.specs.Contents.{entries, history_at, request_rows, watchers}
+use Rattle.service_core.specs.Attaching.{of_queues}
 use Rattle.check_core.specs.declared.rows.Row.{Row as RowInCode}
 use Rattle.check_core.specs.declared.rows.Row.TheVariants as row
 use Rattle.check_core.specs.declared.rows.Unknown.{Unknown as UnknownInCode}
@@ -54,10 +55,6 @@ unknown_queue s (q ∷ qs) =
     option_or
     (option_map (λ found. unknown (in_queue q.name) found.0 found.1) (unknown_of_queue s q))
     (unknown_queue s qs)
-
--- a desk of these queues alone
-abbrev pub of_queues : List QueueRow → Desk
-of_queues queues = record empty_desk { queues = queues }
 
 abbrev pub knows_status : Settings → List QueueRow → RequestRow → Bool
 knows_status s queues request = known.knows_status s (of_queues queues) request

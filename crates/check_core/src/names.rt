@@ -76,8 +76,10 @@ fn actor_told<S: Backend>(
         (state_of S.Store store.old) (state_of S.Store store.new) result }
 {
     for request in requests {
-        if let Some(told) = actor_of(alloc, store, settings, request.id)? {
-            return Ok(Some(told));
+        let found = actor_of(alloc, store, settings, request.id)?;
+        match found {
+            Some(told) => return Ok(Some(told)),
+            None => {}
         }
     }
     Ok(None)

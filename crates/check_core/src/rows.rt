@@ -3,10 +3,9 @@
 ghost use Rattle.std.specs.Prelude.{◌≡◌, find};
 ghost use Rattle.std.specs.Option.{option_map};
 ghost use Rattle.std.specs.Str.{bytes_eq};
-ghost use Rattle.settings_core.specs.Settings.{lifecycle_named};
-ghost use Rattle.desk_model.specs.Lifecycles as lifecycles;
 ghost use Rattle.check_core.specs.Rows as spec;
 
+use desk_model::lifecycles::has_status;
 use desk_model::{Entry, QueueRow, RequestRow, WatchRole, Watcher};
 use settings_core::Settings;
 use text_core::Text;
@@ -138,7 +137,10 @@ fn knows_status(settings: &Settings, queues: &[QueueRow], request: &RequestRow) 
     ensures { result ≡ spec.knows_status settings.now queues.now request.now }
 {
     match queue_named(queues, &request.queue) {
-        Some(queue) => has_status(settings, queue, &request.status),
+        Some(queue) => {
+            let lifecycle = settings.lifecycle(queue.lifecycle.as_str());
+            has_status(lifecycle, request.status.as_str())
+        }
         None => false,
     }
 }
@@ -150,17 +152,6 @@ fn queue_named<'q>(queues: &'q [QueueRow], name: &Text) -> Option<&'q QueueRow>
     queues
         .iter()
         .find(|queue| queue.name.as_str() == name.as_str())
-}
-
-/// Whether the lifecycle of the queue is known and has the status.
-fn has_status(settings: &Settings, queue: &QueueRow, status: &Text) -> bool
-    ensures { result
-        ≡ lifecycles.has_status (lifecycle_named settings.now queue.now.lifecycle) status.now }
-{
-    match settings.lifecycle(queue.lifecycle.as_str()) {
-        Some(lifecycle) => lifecycle.class(status.as_str()).is_some(),
-        None => false,
-    }
 }
 
 fn unknown_owner<'r>(settings: &Settings, owner: &'r Option<Text>) -> Option<(What, &'r str)>
