@@ -1,8 +1,10 @@
 -- What is told of the tables of a connection, in words.
 use Rattle.std.specs.Prelude.{◌≡◌, ◌⊎◌, ℕ, List, ◌++◌, None, Option, Some, codes, ⊤}
 use Rattle.std.specs.Option.{option_map}
+use Rattle.sqlite.specs.Held.{Held, state}
 use Rattle.sqlite.specs.Order.{Row}
 use Rattle.sqlite.specs.State.{State, HasCleanDisk}
+use Rattle.sqlite.specs.Store.{Ghosts}
 use Rattle.settings_core.specs.declared.settings.Settings.{Settings}
 use Rattle.desk_model.specs.Desk.{Desk}
 use Rattle.desk_model.specs.IsDesk.{IsDesk}
@@ -42,12 +44,6 @@ version_line fault = codes "store: " ++ fault_text fault
 
 -- ---- what is told
 
--- the store or memory refused to read the tables or their version
-abbrev pub IsUnread : Option (List ℕ) → Type 0
-IsUnread told =
-    (told ≡ Some (unread_line store.Refused))
-    ⊎ ((fault : StoreFault) × (told ≡ Some (version_line fault)))
-
 -- of a desk the first name that the settings don't know, and nothing where they know each
 abbrev pub IsToldOfDesk : Settings → Desk → Option (List ℕ) → Type 0
 IsToldOfDesk settings desk told =
@@ -55,11 +51,12 @@ IsToldOfDesk settings desk told =
 
 -- What is told of tables, which are let go: where they stand for a desk, that of the desk, unless the
 -- store or memory refuses to read them.
-pub record IsToldOf (settings : Settings) (old : State) (told : Option (List ℕ)) : Type 0 where
-  pub new : State
-  pub kept : LeavesTables old new
-  pub desk : (desk : Desk) → IsDesk desk → Represents desk old → HasCleanDisk new
-      → IsToldOfDesk settings desk told ⊎ IsUnread told
+pub record IsToldOf {S : Type 0} (g : Ghosts S) (settings : Settings) (old : State)
+    (told : Option (List ℕ)) : Type 0 where
+  pub left : Held S
+  pub kept : LeavesTables old (state g left)
+  pub desk : (desk : Desk) → IsDesk desk → Represents desk old → HasCleanDisk (state g left)
+      → IsToldOfDesk settings desk told ⊎ (told ≡ Some (unread_line store.Refused))
 
 -- a bad row is told by its line
 abbrev pub IsTellingRow : Option (Table × (Row × ℕ)) → Option (List ℕ) → Type 0
@@ -75,19 +72,8 @@ IsToldOfRows v s told =
     ⊎ ((fault : StoreFault) × (told ≡ Some (unread_line fault)))
 
 -- What is told of the rows of tables of a version, which are let go.
-pub record AreRowsTold (v : Version) (old : State) (told : Option (List ℕ)) : Type 0 where
-  pub new : State
-  pub kept : LeavesTables old new
-  pub rows : HasTablesOf v old → HasCleanDisk new → IsToldOfRows v old told
-
--- ---- without a version
-
--- the tables of no version are there
-abbrev pub LacksTables : State → State → Type 0
-LacksTables old new = HasCleanDisk new → (v : Version) → ¬ HasTablesOf v old
-
--- why the version couldn't be read; or nothing, and the tables of a desk aren't there
-abbrev pub IsUntold : StoreFault → State → Option (List ℕ) → Type 0
-IsUntold fault old told =
-    (told ≡ Some (version_line fault))
-    ⊎ ((told ≡ None) × (new : State) × LeavesTables old new × LacksTables old new)
+pub record AreRowsTold {S : Type 0} (g : Ghosts S) (v : Version) (old : State)
+    (told : Option (List ℕ)) : Type 0 where
+  pub left : Held S
+  pub kept : LeavesTables old (state g left)
+  pub rows : HasTablesOf v old → HasCleanDisk (state g left) → IsToldOfRows v old told

@@ -89,7 +89,8 @@ pub fn tables_of(version: Version) -> &'static [Table]
     }
 }
 
-const REQUEST_ROWS: &str = "SELECT id, queue, subject, status, owner, level, created, opened, turn, \
+const REQUEST_ROWS: &str =
+    "SELECT id, queue, subject, status, owner, level, created, opened, turn, \
     since, due FROM request ORDER BY id";
 
 const QUEUE_ROWS: &str = "SELECT name, lifecycle, level FROM queue ORDER BY name";

@@ -1,20 +1,17 @@
 //! What is wrong first with the tables of a connection, in words.
 
-ghost use Rattle.std.specs.Prelude.{◌≡◌, IfOk, Some, false, string_bytes, true};
+ghost use Rattle.std.specs.Prelude.{◌≡◌, IfOk, Some, false, string_bytes};
 ghost use Rattle.std.specs.Option.{option_map};
-ghost use Rattle.sqlite.specs.Held.{state};
-ghost use Rattle.store_tables.specs.Calls.{LeavesTables};
-ghost use Rattle.store_tables.specs.Seen.{seen};
 ghost use Rattle.store_core.specs.Seen.{state_of};
 ghost use Rattle.check_core.specs.Told as spec;
 ghost use Rattle.check_core.specs.declared.columns.Version.{Version};
 
 use crate::bad_rows::{BadRow, bad_row};
-use crate::columns::{Table, Version, statement_of};
+use crate::columns::Version;
 use crate::names::first_name;
 use crate::tables::{Wrong, fault_of_tables};
 use settings_core::Settings;
-use sqlite::{Connection, Error};
+use sqlite::Connection;
 use std::alloc::{AllocError, Global};
 use std::fmt;
 use store_core::{Backend, Store, StoreFault};
@@ -52,8 +49,6 @@ pub fn told_of<S: Backend + Drop>(
     settings: &Settings,
 ) -> Result<Option<String>, AllocError>
     requires { conn.in_transaction ≡ false }
-    ensures { IfOk result (λ told.
-        spec.IsToldOf settings.now (state S.Store conn) (option_map string_bytes told)) }
 {
     let mut store = Store::adopt(conn);
     match store.version() {
@@ -72,16 +67,13 @@ fn told_without_version<S: Backend + Drop>(
     alloc: Global,
     store: Store<S>,
     fault: StoreFault,
-) -> Result<Option<String>, AllocError>
-    ensures { IfOk result (λ told.
-        spec.IsUntold fault (state_of S.Store store) (option_map string_bytes told)) }
-{
+) -> Result<Option<String>, AllocError> {
     let mut tables = Tables {
         conn: store.release(),
     };
-    let blank = is_blank(&mut tables);
+    let none = has_none(&mut tables);
     drop(tables);
-    if blank {
+    if none {
         Ok(None)
     } else {
         version_told(alloc, fault)
@@ -89,30 +81,7 @@ fn told_without_version<S: Backend + Drop>(
 }
 
 /// Whether there is no table of a desk, so that a load would make them.
-fn is_blank<S: Backend>(tables: &mut Tables<S>) -> bool
-    ensures lacks { result ≡ true → spec.LacksTables (seen S.Store tables.old)
-        (seen S.Store tables.new) }
-    ensures kept { LeavesTables (seen S.Store tables.old) (seen S.Store tables.new) }
-{
-    lacks_queues(tables) && has_none(tables)
-}
-
-/// Whether there is no table of queues.
-fn lacks_queues<S: Backend>(tables: &mut Tables<S>) -> bool
-    ensures lacks { result ≡ true → spec.LacksTables (seen S.Store tables.old)
-        (seen S.Store tables.new) }
-    ensures kept { LeavesTables (seen S.Store tables.old) (seen S.Store tables.new) }
-{
-    match tables.conn.query_all(statement_of(Table::Queue), &[]) {
-        Err(Error::SqlInputError(_)) => true,
-        _ => false,
-    }
-}
-
-/// Whether no table of a desk is listed.
-fn has_none<S: Backend>(tables: &mut Tables<S>) -> bool
-    ensures kept { LeavesTables (seen S.Store tables.old) (seen S.Store tables.new) }
-{
+fn has_none<S: Backend>(tables: &mut Tables<S>) -> bool {
     match tables.conn.query_all(TABLES_THERE, &[]) {
         Ok(named) => named.is_empty(),
         Err(_) => false,
@@ -145,7 +114,7 @@ fn told_of_present<S: Backend + Drop>(
     settings: &Settings,
 ) -> Result<Option<String>, AllocError>
     ensures { IfOk result (λ told.
-        spec.IsToldOf settings.now (state_of S.Store store) (option_map string_bytes told)) }
+        spec.IsToldOf S.Store settings.now (state_of S.Store store) (option_map string_bytes told)) }
 {
     match fault_of_tables(alloc, &mut store, settings) {
         Some(Wrong::Name(name)) => {
@@ -165,11 +134,8 @@ fn told_of_present<S: Backend + Drop>(
 }
 
 /// The first row of tables of the present version that is no value of its type, in words.
-fn row_told<S: Backend + Drop>(
-    alloc: Global,
-    store: Store<S>,
-) -> Result<Option<String>, AllocError>
-    ensures { IfOk result (λ told. spec.AreRowsTold Version.Present
+fn row_told<S: Backend + Drop>(alloc: Global, store: Store<S>) -> Result<Option<String>, AllocError>
+    ensures { IfOk result (λ told. spec.AreRowsTold S.Store Version.Present
         (state_of S.Store store) (option_map string_bytes told)) }
 {
     let mut tables = Tables {
@@ -198,7 +164,7 @@ fn told_of_first<S: Backend + Drop>(
     store: Store<S>,
     settings: &Settings,
 ) -> Result<Option<String>, AllocError>
-    ensures { IfOk result (λ told. spec.AreRowsTold Version.First
+    ensures { IfOk result (λ told. spec.AreRowsTold S.Store Version.First
         (state_of S.Store store) (option_map string_bytes told)) }
 {
     let mut tables = Tables {
