@@ -13,7 +13,7 @@ use Rattle.settings_form.specs.declared.form.TextForm.TheVariants.{Any}
 use Rattle.store_tables.specs.declared.fault.StoreFault.TheVariants.{Mismatch, Refused, WrongVersion}
 use Rattle.check_core.specs.Columns.{schema_of, tree_of}
 use Rattle.check_core.specs.Inside.{grant_in, named, number_of, value_of}
-use Rattle.check_core.specs.Rows.{in_entry, unknown}
+use Rattle.check_core.specs.Rows.{in_queue, unknown}
 use Rattle.check_core.specs.Told.{name_line, row_line, unread_line, version_line}
 use Rattle.check_core.specs.Typed.{misfit}
 use Rattle.check_core.specs.Words.{unknown_text}
@@ -34,13 +34,13 @@ stays_in_version_2 = refl
 -- Told.antt
 
 line_of_a_name :
-    name_line (unknown_text (unknown (in_entry 7 2) what.Actor (codes "eve")))
-    ≡ codes "attach: request 7, entry 2: the settings don't know the person who made it `eve`"
+    name_line (unknown_text (unknown (in_queue (codes "sales")) what.Level (codes "slow")))
+    ≡ codes "attach: queue `sales`: the settings don't know the level `slow`"
 line_of_a_name = refl
 
 line_of_a_row :
-    row_line (tables.Link, (value.Int (pos 1) ∷ value.Int (pos 9) ∷ value.Int (pos 2) ∷ [], 1))
-    ≡ codes "attach: the table `link`, source 1, kind 9, target 2: the column `kind` has 9, no value of its type"
+    row_line (tables.Queue, (value.Null ∷ value.Null ∷ value.Null ∷ [], 1))
+    ≡ codes "attach: the table `queue`, name nothing: the column `lifecycle` has nothing, no value of its type"
 line_of_a_row = refl
 
 line_of_rows_that_were_refused :

@@ -42,7 +42,7 @@ pub fn fault_of_tables<S: Backend>(
         Ok(true) => None,
         Ok(false) => match name_lacked(alloc, store, settings) {
             Ok(told) => Some(Wrong::Name(told)),
-            Err(fault) => Some(Wrong::Rows(fault)),
+            Err(refused) => Some(Wrong::Rows(refused)),
         },
         Err(fault) => Some(Wrong::Rows(fault)),
     }

@@ -11,7 +11,7 @@ returns-in-Ok-clause-is g c =
 pub returns-in-Err-name_lacked-clause-is : goal.returns-in-Err-name_lacked-clause-is
 returns-in-Err-name_lacked-clause-is g c =
     blames_after c.knows_tables.ensures.kept c.name_lacked.ensures.kept.clean
-    (told_only c.in-Err-name_lacked.fault c.in-Err-name_lacked.ensures.blames)
+    (told_only c.in-Err-name_lacked.refused c.in-Err-name_lacked.ensures.blames)
 
 pub returns-in-Err-clause-begins : goal.returns-in-Err-clause-begins
 returns-in-Err-clause-begins g c =
