@@ -9,33 +9,75 @@ use Rattle.sqlite.specs.State.{State, HasCleanDisk, Shown}
 use Rattle.sqlite_rules.specs.Lists.{Has}
 use Rattle.sqlite_rules.proofs.ProbeLemmas.{mapped_has}
 use Rattle.sqlite_tied.specs.Compute.{everything}
-use Rattle.store_tables.specs.Calls.{AreThere, Leaves, LeavesTables}
-use Rattle.store_tables.specs.Contents.{desk_schema}
+use Rattle.store_tables.specs.Calls.{Leaves, LeavesTables}
 use Rattle.store_tables.specs.Picked.{Picks, shows}
 use Rattle.store_tables.specs.Query.{reads}
 use Rattle.store_tables.specs.declared.fault.StoreFault.{StoreFault}
-use Rattle.store_tables.proofs.Meaning.{Selects}
+use Rattle.store_tables.proofs.Meaning.{SelectsIn}
 use Rattle.store_tables.proofs.PickedLemmas.{picked_by}
 use Rattle.store_tables.proofs.ReadLemmas.{has_permuted}
 use Rattle.store_tables.proofs.ReadingLemmas.{every, table_rows}
 use Rattle.store_tables.proofs.StandLemmas.{shown_open}
-use Rattle.check_core.specs.BadRows.{AreRows, HasBad, IsBadOf, IsFirstRow, IsMisfit}
-use Rattle.check_core.specs.Columns.{key_of, kinds_of, names_of, shown_of, statement_of, tree_of}
+use Rattle.check_core.specs.BadRows.{AreRows, HasBad, HasTablesOf, IsBadOf, IsFirstRow}
+use Rattle.check_core.specs.BadRows.{IsMisfit}
+use Rattle.check_core.specs.Columns.{key_of, kinds_of, names_of, schema_of, shown_of}
+use Rattle.check_core.specs.Columns.{statement_of, tables_of, tree_of}
 use Rattle.check_core.specs.declared.columns.Kind.{Kind}
 use Rattle.check_core.specs.declared.columns.Table.{Table}
 use Rattle.check_core.specs.declared.columns.Table.TheVariants as table
+use Rattle.check_core.specs.declared.columns.Version.{Version}
+use Rattle.check_core.specs.declared.columns.Version.TheVariants as version
 use Rattle.check_core.proofs.KindLemmas.{Fit, fit_all, fit_none, fit_of, shown, value_of}
 
--- what the statement of a table means
-pub means : (t : Table)
-    → Selects (statement_of t) (reads (tree_of t) [] (shown_of t) (key_of t)) (names_of t)
+-- version 1 has no stays
+no_stays : Has (tables_of version.First) table.Stay → ⊥
+no_stays (inl is) = cc
+no_stays (inr (inl is)) = cc
+no_stays (inr (inr (inl is))) = cc
+no_stays (inr (inr (inr (inl is)))) = cc
+no_stays (inr (inr (inr (inr (inl is))))) = cc
+no_stays (inr (inr (inr (inr (inr none))))) = none
+
+-- the present version has each table
+pub present : (t : Table) → Has (tables_of version.Present) t
+present table.Request = inl refl
+present table.Queue = inr (inl refl)
+present table.Stay = inr (inr (inl refl))
+present table.Link = inr (inr (inr (inl refl)))
+present table.Entry = inr (inr (inr (inr (inl refl))))
+present table.Watcher = inr (inr (inr (inr (inr (inl refl)))))
+
+-- what the statement of a table means over the tables of a version
+abbrev Means : Version → Table → Type 0
+Means v t =
+    SelectsIn (schema_of v) (statement_of t) (reads (tree_of t) [] (shown_of t) (key_of t))
+    (names_of t)
+
+pub means : (v : Version) (t : Table) → Has (tables_of v) t → Means v t
 unfolding understood everything
-means table.Request = record { is = refl; plain = (refl, refl); unlisted = refl; none = λ s n. refl }
-means table.Queue = record { is = refl; plain = (refl, refl); unlisted = refl; none = λ s n. refl }
-means table.Stay = record { is = refl; plain = (refl, refl); unlisted = refl; none = λ s n. refl }
-means table.Link = record { is = refl; plain = (refl, refl); unlisted = refl; none = λ s n. refl }
-means table.Entry = record { is = refl; plain = (refl, refl); unlisted = refl; none = λ s n. refl }
-means table.Watcher = record { is = refl; plain = (refl, refl); unlisted = refl; none = λ s n. refl }
+means version.Present table.Request has =
+    record { is = refl; plain = (refl, refl); unlisted = refl; none = λ s n. refl }
+means version.Present table.Queue has =
+    record { is = refl; plain = (refl, refl); unlisted = refl; none = λ s n. refl }
+means version.Present table.Stay has =
+    record { is = refl; plain = (refl, refl); unlisted = refl; none = λ s n. refl }
+means version.Present table.Link has =
+    record { is = refl; plain = (refl, refl); unlisted = refl; none = λ s n. refl }
+means version.Present table.Entry has =
+    record { is = refl; plain = (refl, refl); unlisted = refl; none = λ s n. refl }
+means version.Present table.Watcher has =
+    record { is = refl; plain = (refl, refl); unlisted = refl; none = λ s n. refl }
+means version.First table.Request has =
+    record { is = refl; plain = (refl, refl); unlisted = refl; none = λ s n. refl }
+means version.First table.Queue has =
+    record { is = refl; plain = (refl, refl); unlisted = refl; none = λ s n. refl }
+means version.First table.Stay has = absurd (no_stays has)
+means version.First table.Link has =
+    record { is = refl; plain = (refl, refl); unlisted = refl; none = λ s n. refl }
+means version.First table.Entry has =
+    record { is = refl; plain = (refl, refl); unlisted = refl; none = λ s n. refl }
+means version.First table.Watcher has =
+    record { is = refl; plain = (refl, refl); unlisted = refl; none = λ s n. refl }
 
 -- ---- among rows
 
@@ -62,14 +104,14 @@ bad_one ks (row ∷ rows) bad (inr (good, rest)) =
 
 -- ---- of a table
 
-module _ (t : Table) {old new : State} {X : Type 0} (x : X) (rows : List Row)
-    (leaves : Leaves old new (Ok x)) (there : AreThere old)
+module _ (v : Version) (t : Table) (in_it : Has (tables_of v) t) {old new : State} {X : Type 0}
+    (x : X) (rows : List Row) (leaves : Leaves old new (Ok x)) (there : HasTablesOf v old)
     (clean : HasCleanDisk new) (h : Shown (statement_of t) [] old new rows)
   where
     are_rows : AreRows t old.now rows
     are_rows = picked_by (statement_of t) [] old new
         (there (leaves.spares.clean clean) (shown_open (statement_of t) [] old new rows h)).0
-        (tree_of t) [] (shown_of t) (key_of t) (means t) rows h
+        (tree_of t) [] (shown_of t) (key_of t) (means v t in_it) rows h
 
     -- what is shown of each row of the table is among them
     shown_has : (r : Row) → Has (old.now.trees (tree_of t)) r → Has rows (shown t r)
@@ -88,7 +130,7 @@ module _ (t : Table) {old new : State} {X : Type 0} (x : X) (rows : List Row)
     has_bad bad first =
         let it = bad_one (kinds_of t) rows bad first in
         let (open_, r, has, same) = table_rows (statement_of t) [] (tree_of t) [] (shown_of t)
-        (key_of t) (means t) old new leaves.spares.clean
+        (key_of t) (means v t in_it) old new leaves.spares.clean
         (λ d o. (there d o).0) clean rows h bad.0 it.0 in
         (r, has, λ value. it.1 (subst (Fit (kinds_of t) 0) (sym same) (fit_of t r value)))
 

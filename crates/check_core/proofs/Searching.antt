@@ -1,17 +1,21 @@
 -- A search goes over a list from its front: the first of what is left is the first of all.
 use Rattle.std.proofs.Common.{◌≡◌, ◌<◌, ◌≤◌, ◌+◌, ◌∙◌, ℕ, List, [], ◌∷◌, None, Option, Some, ap, drop}
 use Rattle.std.proofs.Common.{get_or, inl, inr, length, refl, subst, sym}
-use Rattle.std.proofs.lemmas.List.{drop_all, drop_more}
+use Rattle.std.proofs.lemmas.List.{drop_all, drop_more, get_or_default}
 use Rattle.sqlite.specs.Order.{Row, column}
 use Rattle.sqlite.specs.State.{State, HasCleanDisk}
-use Rattle.store_tables.specs.Calls.{AreThere, LeavesTables}
-use Rattle.store_tables.proofs.Spared.{joined, there_still, unread}
-use Rattle.check_core.specs.BadRows.{IsBadOf, IsFirst, IsFirstRow, IsMisfit}
-use Rattle.check_core.specs.Columns.{IsOf}
+use Rattle.sqlite.specs.Effect.{Database}
+use Rattle.sqlite_rules.specs.Lists.{Has}
+use Rattle.sqlite_rules.proofs.ListLemmas.{has_at}
+use Rattle.store_tables.specs.Calls.{LeavesTables}
+use Rattle.store_tables.proofs.Spared.{joined, left_both, unread}
+use Rattle.check_core.specs.BadRows.{HasTablesOf, IsBadOf, IsFirst, IsFirstRow, IsMisfit}
+use Rattle.check_core.specs.Columns.{IsOf, schema_of, tables_of}
 use Rattle.check_core.specs.declared.columns.Kind.{Kind}
 use Rattle.check_core.specs.declared.columns.Table.{Table}
+use Rattle.check_core.specs.declared.columns.Version.{Version}
 
-rest_of : {X : Type 0} (xs : List X) (i : ℕ) (x : X) → i < length xs → x ≡ get_or xs i x
+pub rest_of : {X : Type 0} (xs : List X) (i : ℕ) (x : X) → i < length xs → x ≡ get_or xs i x
     → x ∷ drop (i + 1) xs ≡ drop i xs
 rest_of xs i x low is =
     sym (drop_more xs i x low ∙ ap (λ y. y ∷ drop (i + 1) xs) (sym is))
@@ -59,20 +63,28 @@ module _ (ks : List Kind) (rows : List Row) (i : ℕ) (left : RowsLeft ks rows i
         left found (subst (λ (us : List Row). IsFirstRow ks us found) (rest_of rows i row low is)
         (inr (good, rest)))
 
--- ---- the tables, which stay as they are
+-- ---- the tables of a version, which stay as they are
 
-abbrev pub TablesLeft : List Table → ℕ → State → State → Type 0
-TablesLeft ts i old now =
+-- they are there still
+still_has : (v : Version) {a b : State} → LeavesTables a b → HasTablesOf v a → HasTablesOf v b
+still_has v {a} {b} kept there =
+    left_both (λ (d : Database). d.schema ≡ schema_of v) a b kept.clean kept.left there
+
+abbrev pub TablesLeft : Version → ℕ → State → State → Type 0
+TablesLeft v i old now =
     LeavesTables old now
-    × (AreThere old → HasCleanDisk now → (now.now ≡ old.now)
-    × ((found : Option (Table × (Row × ℕ))) → IsFirst (drop i ts) found old.now
-    → IsFirst ts found old.now))
+    × (HasTablesOf v old → HasCleanDisk now → (now.now ≡ old.now)
+    × ((found : Option (Table × (Row × ℕ))) → IsFirst (drop i (tables_of v)) found old.now
+    → IsFirst (tables_of v) found old.now))
 
-pub all_left : (ts : List Table) (s : State) → TablesLeft ts 0 s s
-all_left ts s = (unread s, λ there clean. (refl, λ found first. first))
+pub all_left : (v : Version) (s : State) → TablesLeft v 0 s s
+all_left v s = (unread s, λ there clean. (refl, λ found first. first))
 
-module _ (ts : List Table) (i : ℕ) {old mid : State} (left : TablesLeft ts i old mid) where
-  pub no_table : length ts ≤ i → AreThere old → HasCleanDisk mid
+module _ (v : Version) (i : ℕ) {old mid : State} (left : TablesLeft v i old mid) where
+  abbrev ts : List Table
+  ts = tables_of v
+
+  pub no_table : length ts ≤ i → HasTablesOf v old → HasCleanDisk mid
       → IsFirst ts None old.now × (mid.now ≡ old.now)
   no_table past there clean =
       let so = left.1 there clean in (
@@ -82,29 +94,35 @@ module _ (ts : List Table) (i : ℕ) {old mid : State} (left : TablesLeft ts i o
       )
 
   module _ (other : Table) (low : i < length ts) {new : State} (kept : LeavesTables mid new) where
-    pub first_table : (bad : Row × ℕ)
-        → (AreThere mid → HasCleanDisk new → IsBadOf (get_or ts i other) (Some bad) mid.now × (new.now ≡ mid.now))
-        → AreThere old → HasCleanDisk new
-        → IsFirst ts (Some (get_or ts i other, bad)) old.now × (new.now ≡ old.now)
+    abbrev t : Table
+    t = get_or ts i other
+
+    abbrev BadIn : Option (Row × ℕ) → Type 0
+    BadIn found =
+        (w : Version) → Has (tables_of w) t → HasTablesOf w mid → HasCleanDisk new
+        → IsBadOf t found mid.now × (new.now ≡ mid.now)
+
+    in_it : Has ts t
+    in_it = has_at ts i t low (get_or_default ts i other t low)
+
+    pub first_table : (bad : Row × ℕ) → BadIn (Some bad) → HasTablesOf v old → HasCleanDisk new
+        → IsFirst ts (Some (t, bad)) old.now × (new.now ≡ old.now)
     first_table bad has there clean =
         let so = left.1 there (kept.clean clean) in
-        let it = has (there_still left.0 there) clean in (
-          so.1 (Some (get_or ts i other, bad)) (subst (λ (us : List Table). IsFirst us (Some (get_or ts i other, bad)) old.now)
-              (here_of ts i other low)
-              (inl (bad, refl, subst (IsBadOf (get_or ts i other) (Some bad)) so.0 it.0))),
+        let it = has v in_it (still_has v left.0 there) clean in (
+          so.1 (Some (t, bad)) (subst (λ (us : List Table). IsFirst us (Some (t, bad)) old.now)
+              (here_of ts i other low) (inl (bad, refl, subst (IsBadOf t (Some bad)) so.0 it.0))),
           it.1 ∙ so.0,
         )
 
-    pub next_table :
-        (AreThere mid → HasCleanDisk new → IsBadOf (get_or ts i other) None mid.now × (new.now ≡ mid.now))
-        → TablesLeft ts (i + 1) old new
+    pub next_table : BadIn None → TablesLeft v (i + 1) old new
     next_table none = (
       joined left.0 kept,
       λ there clean.
           let so = left.1 there (kept.clean clean) in
-          let it = none (there_still left.0 there) clean in (
+          let it = none v in_it (still_has v left.0 there) clean in (
             it.1 ∙ so.0,
             λ found rest. so.1 found (subst (λ (us : List Table). IsFirst us found old.now)
-                (here_of ts i other low) (inr (subst (IsBadOf (get_or ts i other) None) so.0 it.0, rest))),
+                (here_of ts i other low) (inr (subst (IsBadOf t None) so.0 it.0, rest))),
           ),
     )

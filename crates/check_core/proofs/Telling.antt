@@ -1,6 +1,6 @@
 -- What is told of tables, by what was read of them.
 use Rattle.std.proofs.Common.{◌≡◌, false, inr, ap, ◌∙◌, sym}
-use Rattle.std.proofs.Common.{Err, Option, Result, Some}
+use Rattle.std.proofs.Common.{ℕ, Err, List, Option, Result, Some}
 use Rattle.std.specs.Prelude.{⊤}
 use Rattle.sqlite.specs.State.{State, HasCleanDisk}
 use Rattle.settings_core.specs.declared.settings.Settings.{Settings}
@@ -14,8 +14,9 @@ use Rattle.store_tables.specs.declared.fault.StoreFault.{StoreFault}
 use Rattle.store_tables.specs.declared.fault.StoreFault.TheVariants.{Refused}
 use Rattle.store_tables.specs.Contents.{contents_of}
 use Rattle.store_tables.proofs.ReadOn.{blames_none}
+use Rattle.store_tables.proofs.Spared.{stands_for}
 use Rattle.service_core.specs.Attaching.{LacksName, TellsKnown, AllRowsValid}
-use Rattle.check_core.specs.Tables.{BeginsOver, BlamesOnly}
+use Rattle.check_core.specs.Tables.{BeginsOver, BlamesOnly, IsLacking, TellsName}
 use Rattle.check_core.specs.declared.tables.Wrong.{Wrong}
 use Rattle.check_core.specs.declared.tables.Wrong.TheVariants as wrong
 
@@ -32,6 +33,14 @@ pub not_lacking : {settings : Settings} {old new : State} (found : Option Wrong)
     → LacksName settings old new → BeginsOver settings old new found
 not_lacking found lacks desk is stands known clean =
     absurd (let no = sym known ∙ lacks.unknown desk is stands clean in cc)
+
+-- where the settings lack a name, the first is told
+pub lacking : (s : Settings) {a b c : State} {told : List ℕ} → LeavesTables a b → LeavesTables b c
+    → AllRowsValid a b → TellsKnown s a b false → TellsName s b c told → IsLacking s a c told
+lacking s first later tested known name = record {
+  lacks = lacks_then later tested known;
+  first = λ desk is stand lacks clean. name desk is (stands_for first desk stand) lacks clean;
+}
 
 -- over the tables of a desk only the store or memory refuses
 pub refused_only : (settings : Settings) {old new : State} (fault : StoreFault)

@@ -1,15 +1,16 @@
 -- The first row of a desk's tables that is no value of its type.
-use Rattle.std.specs.Prelude.{◌≡◌, ◌⊎◌, ◌+◌, ℕ, IfOk, List, [], ◌∷◌, Option, None, Some, Result}
+use Rattle.std.specs.Prelude.{◌≡◌, ◌⊎◌, ◌+◌, ℕ, IfOk, IsTrue, List, [], ◌∷◌, Option, None, Some, Result}
 use Rattle.sqlite.specs.Effect.{Database}
 use Rattle.sqlite.specs.Order.{Row, column}
 use Rattle.sqlite.specs.State.{State, HasCleanDisk}
-use Rattle.store_tables.specs.Calls.{AreThere}
 use Rattle.store_tables.specs.Contents.{HasBadRow}
 use Rattle.store_tables.specs.Picked.{Picks}
 use Rattle.store_tables.specs.declared.fault.StoreFault.{StoreFault}
-use Rattle.check_core.specs.Columns.{IsOf, IsValue, key_of, kinds_of, shown_of, tree_of}
+use Rattle.check_core.specs.Columns.{IsOf, IsValue, key_of, kinds_of, schema_of, shown_of}
+use Rattle.check_core.specs.Columns.{tree_of}
 use Rattle.check_core.specs.declared.columns.Kind.{Kind}
 use Rattle.check_core.specs.declared.columns.Table.{Table}
+use Rattle.check_core.specs.declared.columns.Version.{Version}
 
 -- a row of the table is no value of its type
 abbrev pub HasBad : Table → Database → Type 0
@@ -47,8 +48,14 @@ IsFirst (t ∷ ts) found db =
     ((bad : Row × ℕ) × (found ≡ Some (t, bad)) × IsBadOf t (Some bad) db)
     ⊎ (IsBadOf t None db × IsFirst ts found db)
 
--- what was found is so of tables that are there, and they have not changed
-abbrev pub Finds : {X : Type 0} → (X → Database → Type 0) → State → State → Result X StoreFault
-    → Type 0
-Finds Is old new result =
-    AreThere old → HasCleanDisk new → IfOk result (λ x. Is x old.now × (new.now ≡ old.now))
+-- the tables of a version are there, in the transaction and in the last commit, with any rows
+abbrev pub HasTablesOf : Version → State → Type 0
+HasTablesOf v s =
+    HasCleanDisk s → IsTrue s.is_open
+    → (s.now.schema ≡ schema_of v) × (s.committed.schema ≡ schema_of v)
+
+-- what was found is so of tables of this version that are there, and they have not changed
+abbrev pub Finds : {X : Type 0} → Version → (X → Database → Type 0) → State → State
+    → Result X StoreFault → Type 0
+Finds v Is old new result =
+    HasTablesOf v old → HasCleanDisk new → IfOk result (λ x. Is x old.now × (new.now ≡ old.now))

@@ -2,8 +2,10 @@
 -- order, and what stands in a column.
 use Rattle.std.specs.Prelude.{◌≡◌, ◌≤◌, ℕ, List, [], ◌∷◌, ◌++◌, codes}
 use Rattle.sqlite.specs.Order.{Row}
+use Rattle.sqlite.specs.Schema.{Schema}
 use Rattle.sqlite.specs.Term.{Term}
 use Rattle.sqlite.specs.declared.types.Value.{Value}
+use Rattle.store_tables.specs.Contents.{desk_schema, first_schema}
 use Rattle.store_tables.specs.Contents.Entry.{IsBareEntry, bare_shown, entry}
 use Rattle.store_tables.specs.Contents.Link.{IsLinkRow, link}
 use Rattle.store_tables.specs.Contents.Queue.{IsQueueRow, queue, queue_order, queue_shown}
@@ -16,15 +18,20 @@ use Rattle.check_core.specs.declared.columns.Kind.{Kind}
 use Rattle.check_core.specs.declared.columns.Kind.TheVariants as kind
 use Rattle.check_core.specs.declared.columns.Table.{Table}
 use Rattle.check_core.specs.declared.columns.Table.TheVariants as table
+use Rattle.check_core.specs.declared.columns.Version.{Version}
+use Rattle.check_core.specs.declared.columns.Version.TheVariants as version
 
--- in the order in which attaching reads them
-abbrev pub tested_tables : List Table
-tested_tables =
+-- in the order in which attaching reads them; version 1 has no stays
+abbrev pub tables_of : Version → List Table
+tables_of version.First =
+    table.Request ∷ table.Queue ∷ table.Link ∷ table.Entry ∷ table.Watcher ∷ []
+tables_of version.Present =
     table.Request ∷ table.Queue ∷ table.Stay ∷ table.Link ∷ table.Entry ∷ table.Watcher ∷ []
 
--- those of version 1, which has no stays
-abbrev pub first_tables : List Table
-first_tables = table.Request ∷ table.Queue ∷ table.Link ∷ table.Entry ∷ table.Watcher ∷ []
+-- all tables of a version
+abbrev pub schema_of : Version → Schema
+schema_of version.First = first_schema
+schema_of version.Present = desk_schema
 
 -- the number of the tree in which a table's rows are kept
 abbrev pub tree_of : Table → ℕ

@@ -1,10 +1,10 @@
 -- The first name in the rows of a desk's tables that settings don't know.
-use Rattle.std.specs.Prelude.{ℕ, Bool, List, [], ◌∷◌, Option, Some, None, is_some}
+use Rattle.std.specs.Prelude.{◌≡◌, ℕ, Bool, List, [], ◌∷◌, flat_map, Option, Some, None, is_none, is_some}
 use Rattle.std.specs.Prelude.{if◌then◌else◌}
 use Rattle.std.specs.Option.{option_map, option_or}
 use Rattle.settings_core.specs.Settings.{knows, level_named, lifecycle_named}
 use Rattle.settings_core.specs.declared.settings.Settings.{Settings}
-use Rattle.desk_model.specs.Desk.{Desk, empty_desk}
+use Rattle.desk_model.specs.Desk.{Desk}
 use Rattle.desk_model.specs.Known as known
 use Rattle.desk_model.specs.declared.rows.Entry.{Entry}
 use Rattle.desk_model.specs.declared.rows.QueueRow.{QueueRow}
@@ -12,6 +12,8 @@ use Rattle.desk_model.specs.declared.rows.RequestRow.{RequestRow}
 use Rattle.desk_model.specs.declared.rows.WatchRole.{WatchRole}
 use Rattle.desk_model.specs.declared.rows.WatchRole.TheVariants as role
 use Rattle.desk_model.specs.declared.rows.Watcher.{Watcher}
+use Rattle.store_tables.specs.Contents.{entries, history_at, request_rows, watchers}
+use Rattle.service_core.specs.Attaching.{of_queues}
 use Rattle.check_core.specs.declared.rows.Row.{Row as RowInCode}
 use Rattle.check_core.specs.declared.rows.Row.TheVariants as row
 use Rattle.check_core.specs.declared.rows.Unknown.{Unknown as UnknownInCode}
@@ -54,10 +56,6 @@ unknown_queue s (q ∷ qs) =
     (option_map (λ found. unknown (in_queue q.name) found.0 found.1) (unknown_of_queue s q))
     (unknown_queue s qs)
 
--- a desk of these queues alone
-abbrev pub of_queues : List QueueRow → Desk
-of_queues queues = record empty_desk { queues = queues }
-
 abbrev pub knows_status : Settings → List QueueRow → RequestRow → Bool
 knows_status s queues request = known.knows_status s (of_queues queues) request
 
@@ -91,6 +89,33 @@ unknown_entry s [] = None
 unknown_entry s (e ∷ es) =
     if knows s e.actor then unknown_entry s es
     else Some (unknown (in_entry e.id e.number) what.Actor e.actor)
+
+-- of the queues, or else of the requests
+abbrev pub unknown_row : Settings → List QueueRow → List RequestRow → Option Unknown
+unknown_row s queues requests = option_or (unknown_queue s queues) (unknown_request s queues requests)
+
+-- the first name of a desk that the settings don't know: of a queue, or else of a request, or else
+-- of a watcher, or else of who made an entry
+unfoldable pub first_unknown : Settings → Desk → Option Unknown
+first_unknown s desk =
+    option_or (unknown_row s desk.queues (request_rows desk))
+    (option_or (unknown_watcher s (watchers desk)) (unknown_entry s (entries desk)))
+
+-- settings know each name of a desk exactly where none is the first that they don't
+abbrev pub FirstUnknownLaw : Type 0
+FirstUnknownLaw =
+    (s : Settings) (desk : Desk) → known.is_known s desk ≡ is_none (first_unknown s desk)
+
+-- ---- of persons, as they are read
+
+-- the histories of these requests, one after another
+abbrev pub histories : List RequestRow → Desk → List Entry
+histories requests desk = flat_map (λ r. history_at desk r.id) requests
+
+-- of the watchers, or else of the histories of these requests
+abbrev pub unknown_person : Settings → List RequestRow → Desk → Option Unknown
+unknown_person s requests desk =
+    option_or (unknown_watcher s (watchers desk)) (unknown_entry s (histories requests desk))
 
 -- ---- as the code holds them
 

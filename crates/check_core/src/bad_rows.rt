@@ -6,6 +6,7 @@ ghost use Rattle.std.specs.Str.{IsUtf8};
 ghost use Rattle.sqlite.specs.Order.{column};
 ghost use Rattle.sqlite.specs.declared.types.Value.TheVariants.{Null};
 ghost use Rattle.sqlite.specs.State.{HasCleanDisk, Shown};
+ghost use Rattle.sqlite_rules.specs.Lists.{Has};
 ghost use Rattle.sqlite_value.specs.Value.{owned};
 ghost use Rattle.store_tables.specs.Calls.{Leaves, LeavesTables};
 ghost use Rattle.store_tables.specs.Seen.{seen};
@@ -13,8 +14,9 @@ ghost use Rattle.store_tables.specs.Values.{IsCount, IsMinute, IsText, count_val
 ghost use Rattle.check_core.specs.BadRows.{Finds, IsBadOf, IsFirst, IsFirstRow, IsMisfit};
 ghost use Rattle.check_core.specs.Columns.{IsOf, IsWithin};
 ghost use Rattle.check_core.specs.Columns as columns;
+ghost use Rattle.check_core.specs.declared.columns.Version.{Version};
 
-use crate::columns::{Kind, Table, kinds_of, statement_of};
+use crate::columns::{Kind, Table, Version, kinds_of, statement_of, tables_of};
 use hours_core::Minute;
 use sqlite::types::ValueRef;
 use sqlite::{Alter, Row};
@@ -30,18 +32,19 @@ pub struct BadRow {
     pub at: usize,
 }
 
-/// The first row, by its key, of the first of these tables, that is no value of its type, if one is.
-/// `Refused` where the store or memory refuses it. The tables stay as they are.
+/// The first row, by its key, of the first of the tables of this version, that is no value of its
+/// type, if one is. `Refused` where the store or memory refuses it. The tables stay as they are.
 #[tactic(auto, using(store_tables::proofs::Spared::joined, store_tables::proofs::Spared::unread))]
 pub fn bad_row<S: Alter>(
     tables: &mut Tables<S>,
-    tested: &[Table],
+    version: Version,
 ) -> Result<Option<BadRow>, StoreFault>
-    ensures first { Finds (λ found db. IsFirst tested.now
+    ensures first { Finds version (λ found db. IsFirst (columns.tables_of version)
         (option_map (λ bad. (bad.table, (bad.row, bad.at))) found) db)
         (seen S.Store tables.old) (seen S.Store tables.new) result }
     ensures kept { LeavesTables (seen S.Store tables.old) (seen S.Store tables.new) }
 {
+    let tested = tables_of(version);
     for table in tested {
         let found = bad_of(tables, *table)?;
         match found {
@@ -61,7 +64,8 @@ fn bad_of<S: Alter>(
     tables: &mut Tables<S>,
     table: Table,
 ) -> Result<Option<(Row, usize)>, StoreFault>
-    ensures first { Finds (IsBadOf table)
+    ensures first { (version : Version) → Has (columns.tables_of version) table
+        → Finds version (IsBadOf table)
         (seen S.Store tables.old) (seen S.Store tables.new) result }
     ensures kept { LeavesTables (seen S.Store tables.old) (seen S.Store tables.new) }
 {

@@ -14,6 +14,32 @@ pub enum Table {
     Watcher,
 }
 
+/// A version of the tables.
+#[derive(Clone, Copy)]
+pub enum Version {
+    /// Version 1, which has no stays.
+    First,
+    /// Version 2.
+    Present,
+}
+
+static FIRST_TABLES: [Table; 5] = [
+    Table::Request,
+    Table::Queue,
+    Table::Link,
+    Table::Entry,
+    Table::Watcher,
+];
+
+static PRESENT_TABLES: [Table; 6] = [
+    Table::Request,
+    Table::Queue,
+    Table::Stay,
+    Table::Link,
+    Table::Entry,
+    Table::Watcher,
+];
+
 /// What stands in a column.
 #[derive(Clone, Copy)]
 pub enum Kind {
@@ -53,48 +79,44 @@ static ENTRY: [Kind; 5] = [COUNT, COUNT, Kind::Minute, Kind::Text, Kind::Number(
 
 static WATCHER: [Kind; 3] = [COUNT, Kind::Number(1, 3), Kind::Text];
 
-/// The tables in the order in which they are tested.
-pub fn tested_tables() -> &'static [Table]
-    ensures { result.now ≡ spec.tested_tables }
+/// The tables of a version, in the order in which they are tested.
+pub fn tables_of(version: Version) -> &'static [Table]
+    ensures { result.now ≡ spec.tables_of version }
 {
-    &[
-        Table::Request,
-        Table::Queue,
-        Table::Stay,
-        Table::Link,
-        Table::Entry,
-        Table::Watcher,
-    ]
+    match version {
+        Version::First => &FIRST_TABLES,
+        Version::Present => &PRESENT_TABLES,
+    }
 }
 
-/// Those of version 1, which has no stays.
-pub fn first_tables() -> &'static [Table]
-    ensures { result.now ≡ spec.first_tables }
-{
-    &[
-        Table::Request,
-        Table::Queue,
-        Table::Link,
-        Table::Entry,
-        Table::Watcher,
-    ]
-}
+const REQUEST_ROWS: &str =
+    "SELECT id, queue, subject, status, owner, level, created, opened, turn, \
+    since, due FROM request ORDER BY id";
+
+const QUEUE_ROWS: &str = "SELECT name, lifecycle, level FROM queue ORDER BY name";
+
+const STAY_ROWS: &str =
+    "SELECT request, number, status, begun, ended FROM stay ORDER BY request, number";
+
+const LINK_ROWS: &str = "SELECT source, kind, target FROM link ORDER BY source, kind, target";
+
+const ENTRY_ROWS: &str =
+    "SELECT request, number, moment, actor, kind FROM entry ORDER BY request, number";
+
+const WATCHER_ROWS: &str =
+    "SELECT request, role, person FROM watcher ORDER BY request, role, person";
 
 /// The statement that reads the columns of a table that are tested, by its key.
 pub fn statement_of(table: Table) -> &'static str
     ensures { result.now ≡ spec.statement_of table }
 {
     match table {
-        Table::Request => "SELECT id, queue, subject, status, owner, level, created, opened, turn, \
-            since, due FROM request ORDER BY id",
-        Table::Queue => "SELECT name, lifecycle, level FROM queue ORDER BY name",
-        Table::Stay => "SELECT request, number, status, begun, ended FROM stay ORDER BY request, \
-            number",
-        Table::Link => "SELECT source, kind, target FROM link ORDER BY source, kind, target",
-        Table::Entry => "SELECT request, number, moment, actor, kind FROM entry ORDER BY request, \
-            number",
-        Table::Watcher =>
-            "SELECT request, role, person FROM watcher ORDER BY request, role, person",
+        Table::Request => REQUEST_ROWS,
+        Table::Queue => QUEUE_ROWS,
+        Table::Stay => STAY_ROWS,
+        Table::Link => LINK_ROWS,
+        Table::Entry => ENTRY_ROWS,
+        Table::Watcher => WATCHER_ROWS,
     }
 }
 

@@ -3,10 +3,8 @@
 ghost use Rattle.std.specs.Prelude.{◌≡◌, ◌≢◌, [], IfOk, false, string_bytes};
 ghost use Rattle.check_core.specs.Files.{IsFinding, IsOfTables, IsWarnedOf};
 
-use crate::bad_rows::bad_row;
-use crate::columns::{Table, first_tables, tested_tables};
-use crate::tables::{Wrong, first_fault};
 use crate::text::settings_told;
+use crate::told::told_of;
 use crate::weak::warnings;
 use settings_core::{Settings, SettingsFault};
 use settings_places::reading::read_telling;
@@ -14,12 +12,7 @@ use sqlite::Connection;
 use std::alloc::{AllocError, Global};
 use std::fs::File;
 use std::io::{ErrorKind, Read};
-use store_core::{Backend, Store, StoreFault};
-use store_tables::Tables;
-
-/// Which tables of a desk there are.
-const TABLES_THERE: &str = "SELECT name FROM sqlite_master WHERE type = 'table' AND name IN \
-    ('meta', 'queue', 'request', 'watcher', 'link', 'entry', 'stay')";
+use store_core::{Backend, StoreFault};
 
 /// What is wrong, in words.
 #[derive(Drop)]
@@ -116,8 +109,6 @@ fn unopened(alloc: Global) -> Result<Option<Finding>, AllocError>
     Ok(Some(Finding::Tables(told)))
 }
 
-/// What is wrong first with the tables of a connection. Where it has those of another program alone,
-/// a desk has none yet.
 fn finding_over<S: Backend + Drop>(
     alloc: Global,
     conn: Connection<S>,
@@ -126,66 +117,8 @@ fn finding_over<S: Backend + Drop>(
     requires { conn.in_transaction ≡ false }
     ensures { IfOk result IsOfTables }
 {
-    let mut tables = Tables { conn };
-    if is_blank(&mut tables) {
-        return Ok(None);
-    }
-    match told_of_tables(alloc, Store::adopt(tables.conn), settings)? {
+    match told_of(alloc, conn, settings)? {
         Some(told) => Ok(Some(Finding::Tables(told))),
         None => Ok(None),
-    }
-}
-
-/// Whether a file has no table of a desk, so that a load would make them.
-fn is_blank<S: Backend>(tables: &mut Tables<S>) -> bool {
-    match tables.conn.query_all(TABLES_THERE, &[]) {
-        Ok(named) => named.is_empty(),
-        Err(_) => false,
-    }
-}
-
-/// What is wrong first with tables, in words.
-fn told_of_tables<S: Backend + Drop>(
-    alloc: Global,
-    mut store: Store<S>,
-    settings: &Settings,
-) -> Result<Option<String>, AllocError> {
-    match first_fault(alloc, &mut store, settings)? {
-        Some(wrong) => Ok(Some(wrong_told(alloc, store, wrong)?)),
-        None => Ok(None),
-    }
-}
-
-/// What is wrong with tables, in words: of a row that is no value of its type its table, its key and
-/// the column.
-fn wrong_told<S: Backend + Drop>(
-    alloc: Global,
-    store: Store<S>,
-    wrong: Wrong,
-) -> Result<String, AllocError> {
-    match wrong {
-        Wrong::Name(name) => format!(in alloc; "attach: {name}"),
-        Wrong::Rows(fault) => row_told(alloc, store, tested_tables(), fault),
-        Wrong::FirstRows(fault) => row_told(alloc, store, first_tables(), fault),
-        Wrong::Version(StoreFault::Mismatch) => format!(in alloc;
-            "store: the table `meta`: its version is no value of its type"
-        ),
-        Wrong::Version(fault) => format!(in alloc; "store: {fault}"),
-    }
-}
-
-/// The first row of these tables that is no value of its type, in words, or else the fault.
-fn row_told<S: Backend + Drop>(
-    alloc: Global,
-    store: Store<S>,
-    tested: &[Table],
-    fault: StoreFault,
-) -> Result<String, AllocError> {
-    let mut tables = Tables {
-        conn: store.release(),
-    };
-    match bad_row(&mut tables, tested) {
-        Ok(Some(bad)) => format!(in alloc; "attach: {bad}"),
-        _ => format!(in alloc; "attach: the tables could not be read: {fault}"),
     }
 }

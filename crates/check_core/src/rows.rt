@@ -3,10 +3,9 @@
 ghost use Rattle.std.specs.Prelude.{◌≡◌, find};
 ghost use Rattle.std.specs.Option.{option_map};
 ghost use Rattle.std.specs.Str.{bytes_eq};
-ghost use Rattle.settings_core.specs.Settings.{lifecycle_named};
-ghost use Rattle.desk_model.specs.Lifecycles as lifecycles;
 ghost use Rattle.check_core.specs.Rows as spec;
 
+use desk_model::lifecycles::has_status;
 use desk_model::{Entry, QueueRow, RequestRow, WatchRole, Watcher};
 use settings_core::Settings;
 use text_core::Text;
@@ -44,8 +43,24 @@ pub struct Unknown<'r> {
     pub name: &'r str,
 }
 
-/// The first queue whose lifecycle or level the settings don't know, and that name.
-pub fn unknown_queue<'r>(settings: &Settings, queues: &'r [QueueRow]) -> Option<Unknown<'r>>
+/// The first queue whose lifecycle or level the settings don't know, or else the first request whose
+/// status isn't one of the lifecycle of its queue, among these, or whose level or owner they don't
+/// know, and that name.
+pub fn unknown_row<'r>(
+    settings: &Settings,
+    queues: &'r [QueueRow],
+    requests: &'r [RequestRow],
+) -> Option<Unknown<'r>>
+    ensures { option_map spec.seen result
+        ≡ spec.unknown_row settings.now queues.now requests.now }
+{
+    match unknown_queue(settings, queues) {
+        Some(unknown) => Some(unknown),
+        None => unknown_request(settings, queues, requests),
+    }
+}
+
+fn unknown_queue<'r>(settings: &Settings, queues: &'r [QueueRow]) -> Option<Unknown<'r>>
     ensures { option_map spec.seen result ≡ spec.unknown_queue settings.now queues.now }
 {
     for queue in queues {
@@ -83,9 +98,7 @@ fn unknown_level<'r>(settings: &Settings, level: &'r Option<Text>) -> Option<(Wh
     }
 }
 
-/// The first request whose status isn't one of the lifecycle of its queue, among these, or whose
-/// level or owner the settings don't know, and that name.
-pub fn unknown_request<'r>(
+fn unknown_request<'r>(
     settings: &Settings,
     queues: &[QueueRow],
     requests: &'r [RequestRow],
@@ -124,7 +137,10 @@ fn knows_status(settings: &Settings, queues: &[QueueRow], request: &RequestRow) 
     ensures { result ≡ spec.knows_status settings.now queues.now request.now }
 {
     match queue_named(queues, &request.queue) {
-        Some(queue) => has_status(settings, queue, &request.status),
+        Some(queue) => {
+            let lifecycle = settings.lifecycle(queue.lifecycle.as_str());
+            has_status(lifecycle, request.status.as_str())
+        }
         None => false,
     }
 }
@@ -136,17 +152,6 @@ fn queue_named<'q>(queues: &'q [QueueRow], name: &Text) -> Option<&'q QueueRow>
     queues
         .iter()
         .find(|queue| queue.name.as_str() == name.as_str())
-}
-
-/// Whether the lifecycle of the queue is known and has the status.
-fn has_status(settings: &Settings, queue: &QueueRow, status: &Text) -> bool
-    ensures { result
-        ≡ lifecycles.has_status (lifecycle_named settings.now queue.now.lifecycle) status.now }
-{
-    match settings.lifecycle(queue.lifecycle.as_str()) {
-        Some(lifecycle) => lifecycle.class(status.as_str()).is_some(),
-        None => false,
-    }
 }
 
 fn unknown_owner<'r>(settings: &Settings, owner: &'r Option<Text>) -> Option<(What, &'r str)>

@@ -4,4 +4,4 @@ use Rattle.check_core.proofs.bad_rows.bad_row.Given as goal
 
 abbrev pub invariant-loop-table : goal.invariant-loop-table
 invariant-loop-table g l =
-    TablesLeft l.tested l.table-index (seen g.S.Store l.fn.tables) (seen g.S.Store l.tables)
+    TablesLeft l.fn.version l.table-index (seen g.S.Store l.fn.tables) (seen g.S.Store l.tables)
