@@ -1,6 +1,7 @@
 """What a person doesn't mean to do twice, or as somebody else: presses that follow each other, Back and another press, two
 tabs, a server that is started again, a token that was changed."""
 import signal
+import time
 
 from pages import of_who_signed_in
 
@@ -63,14 +64,23 @@ def filed_twice(visitor, browser):
         expect(subject, filed(subject), 1)
         expect(f"{subject} it leads to", browser.path(), f"/desk/requests/{number}")
         expect(f"{subject} its text", visitor.told(f"/requests/{number}/history").text.count(f"{subject}."), 1)
-    browser.loads(lambda: browser.run("history.back()"))
+    go_back(browser, "/desk/queues/support/new")
     type_in(subject, "ann")
     browser.follow(".sheet button")
     expect("filed once more behind Back", filed(subject), 1)
-    browser.loads(lambda: browser.run("history.back()"))
+    go_back(browser, "/desk/queues/support/new")
     type_in(subject, "yuri")
     browser.follow(".sheet button")
     expect("filed for another person", filed(subject), 2)
+
+
+def go_back(browser, place):
+    """Back to a place, which may be shown as it was left, without being loaded anew."""
+    browser.run("history.back()")
+    until = time.monotonic() + 20
+    while browser.path() != place and time.monotonic() < until:
+        time.sleep(0.1)
+    expect("where Back leads to", browser.path(), place)
 
 
 def press_while_it_stands(visitor, browser, button, told, times, gap):
