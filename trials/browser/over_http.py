@@ -141,16 +141,16 @@ def refused():
 
 def half_done():
     """Of two commands that a form asks for the second is refused: the page says what was done and
-    what wasn't, and has a text that wasn't sent. After a refused first nothing is done."""
+    what wasn't. After a refused first nothing is done. A request is filed with its text, and who may not
+    see it is told its number."""
     with serving("half") as visitor:
         new, text = "/desk/queues/support/new", "It is <b>locked</b>.\n\n\tSince noon."
         reply = visitor.post(new, {"subject": "A door", "requestors": "ann", "text": text}, "eva")
-        page("a text that is refused", reply, 404)
-        holds("it isn't said that it is filed", f"Request {LAST + 1} is filed, but its text was "
-              "not sent." in reply.text)
-        holds("its text is lost", any(text in it for it in markup.texts(reply.text)))
+        page("a request that its filer may not see", reply, 200)
+        holds("its number isn't told", f"It is request {LAST + 1}. You may not see it" in reply.text)
+        holds("its text is told", not any(text in it for it in markup.texts(reply.text)))
         told = visitor.told(f"/requests/{LAST + 1}/history").text
-        expect("what was done", [it.split()[4] for it in told.splitlines()], ["create"])
+        expect("what was done", [it.split()[4] for it in told.splitlines()], ["create", "reply"])
         at = f"/desk/requests/{TALK}"
         before = visitor.told(f"/requests/{TALK}/history").text
         for status, code, said in (("resolved", 409, "refused 9 OpenDependency"),

@@ -52,13 +52,17 @@ def numbered(ask, numbers):
     return Ask(ask.at, ask.way, ask.by, ask.name, words, ask.then, ask.key)
 
 
-def commands(ask, filed=None):
+def commands(ask):
     """The commands that it makes of the desk, in their order."""
     yield ask.name, words_of(ask)
-    if ask.then is not None and ask.name == "create" and ask.then.strip(" \t\r\n"):
-        yield "correspond", [filed, ask.then]
-    elif ask.then and ask.name == "correspond":
+    if ask.then and ask.name == "correspond":
         yield "status", [ask.words[0], ask.then]
+
+
+def first_text(ask):
+    """The text with which a form files a request, or None where it is blank."""
+    has_one = ask.then is not None and ask.name == "create" and ask.then.strip(" \t\r\n")
+    return ask.then.replace("\r\n", "\n") if has_one else None
 
 
 def words_of(ask):

@@ -3,9 +3,10 @@ makes the step on the model too."""
 import answers
 import pages
 from finding import ANY
-from rules import MAX_TEXT, TEXT, Refused, is_of_form, refuse_if
+from rules import Refused
 
-from office.asks import commands, words_of
+from office.asks import commands, first_text, words_of
+from office.deeds import do, file
 from office.hostile import is_search, unspelled
 
 STATUSES = {"ok": 0, "refused": 1}
@@ -36,9 +37,8 @@ def by_form(desk, ask):
     """The code of the reply to a form, and where it leads or what its page tells."""
     if unspelled(ask):
         return 400, {"refused": None, "back": f"/desk/requests/{ask.words[0]}"}
-    filed = done = None
+    done = False
     try:
-        refuse_beforehand(ask)
         if was_sent(desk, ask):
             return 303, f"/desk/requests/{ask.words[0]}#reply"
         if (number := filed_already(desk, ask)) is not None:
@@ -46,13 +46,21 @@ def by_form(desk, ask):
         if is_overtaken(desk, ask):
             return 409, {"refused": None, "back": f"/desk/requests/{ask.words[0]}",
                          "typed": ask.words[1].replace("\r\n", "\n")}
-        for name, words in commands(ask, len(desk.requests) + 1):
-            answer = desk.ask(ask.at, ask.by, name, words)
-            filed, done = (answer, True) if name == "create" else (filed, True)
+        if ask.name == "create":
+            return told_of_filing(desk, ask, file(desk, ask))
+        for name, words in commands(ask):
+            do(desk, ask, name, words)
+            done = True
     except Refused as refusal:
-        return pages.code_of(refusal), refusal_facts(ask, refusal, filed, done)
-    number = filed if ask.name == "create" else None if ask.name == "queue" else ask.words[0]
-    return 303, f"/desk/requests/{number}#reply" if number is not None else "/"
+        return pages.code_of(refusal), refusal_facts(ask, refusal, done)
+    return 303, f"/desk/requests/{ask.words[0]}#reply" if ask.name != "queue" else "/"
+
+
+def told_of_filing(desk, ask, number):
+    """Where a filing leads, or what its filer is told who may not see it."""
+    if desk.may_show(ask.by, desk.request_of(number)):
+        return 303, f"/desk/requests/{number}#reply"
+    return 200, {"filed": f"It is request {number}. You may not see it, so no more is told of it here.", "back": "/"}
 
 
 def was_sent(desk, ask):
@@ -76,8 +84,8 @@ def filed_already(desk, ask):
     see, if it is one of the last hundred: it isn't filed twice."""
     if ask.name != "create":
         return None
-    (_, (queue, subject, _, requestors)), *then = commands(ask, 0)
-    text = then[0][1][1] if then else None
+    queue, subject, _, requestors = words_of(ask)
+    text = first_text(ask)
     for one in reversed(desk.requests[-100:]):
         is_same = (one.queue.name, one.subject, one.entries[0].actor) == (queue, subject, ask.by)
         persons = one.roles["requestor"]
@@ -108,19 +116,11 @@ def is_overtaken(desk, ask):
     return any(it.number > ask.seen and it.actor != ask.by and it.kind in ("reply", "status", "owner") for it in told)
 
 
-def refuse_beforehand(ask):
-    """A first text that no request can take is refused before its request is filed."""
-    for name, words in list(commands(ask))[1:]:
-        refuse_if("BadText", name == "correspond" and not is_of_form(TEXT, words[1], MAX_TEXT))
-
-
-def refusal_facts(ask, refusal, filed, is_half):
+def refusal_facts(ask, refusal, is_half):
     """A form that had a text has it still, but where the text was sent and the move after it wasn't. The way
     back leads to what the form was on; to a queue only as far as the caller may know of it."""
     back = "/"
-    if filed is not None:
-        back = f"/desk/requests/{filed}"
-    elif ask.name == "create":
+    if ask.name == "create":
         back = f"/desk/queues/{ask.words[0]}" if refusal.name != "NotFound" else "/"
     elif ask.name != "queue":
         back = f"/desk/requests/{ask.words[0]}"

@@ -9,6 +9,7 @@ import rules
 
 from office import seldom, texts
 from office.asks import Ask, commands
+from office.deeds import do
 from office.hostile import EACH, hostile, unspelled
 from office.known import Desk, Known
 from office.settle import refusal_of
@@ -121,9 +122,9 @@ class Plan:
         if ask is None or ask.reads or unspelled(ask):
             return
         filed = len(self.desk.requests) + 1
-        for name, words in commands(ask, filed):
+        for name, words in commands(ask):
             try:
-                self.desk.ask(ask.at, ask.by, name, words)
+                do(self.desk, ask, name, words)
             except rules.Refused:
                 return
             if name == "create":

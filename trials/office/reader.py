@@ -255,8 +255,14 @@ def refused(top):
             **({"typed": area.raw().removeprefix("\n")} if area else {})}
 
 
+def filed(top):
+    """The sentence that tells the number of a request which its filer may not see, and the way on."""
+    main = top.one("main")
+    return {"filed": main.one("p").text(), "back": [it.marks["href"] for it in main.all("a", "button")][-1]}
+
+
 PAGES = {"home": home, "queue": find, "find": find, "late": find, "workload": workload, "new": new,
-         "request": request}
+         "request": request, "refused": filed}
 
 
 def facts_of(name, code, page):

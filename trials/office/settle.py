@@ -5,6 +5,7 @@ import re
 
 from office import expected, kept
 from office.asks import commands, words_of
+from office.deeds import do
 from rules import Refused
 
 UNAVAILABLE = "refused 16 Unavailable"
@@ -50,12 +51,11 @@ def is_unavailable(answer):
 
 
 def number_filed(answer):
-    """The number that an answer to a filing tells, or None. A page of a text that was refused leads back to
-    the request that was filed."""
+    """The number that an answer to a filing tells, or None."""
     if answer is None:
         return None
-    text = next((it if isinstance(it, str) else it.get("back") or "" for it in answer if not isinstance(it, int)), "")
-    found = re.fullmatch("(?:request |/desk/requests/)([0-9]+)(?:#reply)?\n?", text)
+    text = next((it if isinstance(it, str) else it.get("filed") or "" for it in answer if not isinstance(it, int)), "")
+    found = re.match("(?:request |/desk/requests/|It is request )([0-9]+)", text)
     return int(found[1]) if found else None
 
 
@@ -83,9 +83,9 @@ def refusal_of(desk, ask):
     """How the first of its commands would be refused that is: its name, the refusal and the right; or None. Nothing
     is changed by it."""
     saved = Saved(desk, {ask.request()})
-    for name, words in commands(ask, len(desk.requests) + 1):
+    for name, words in commands(ask):
         try:
-            desk.ask(ask.at, ask.by, name, words)
+            do(desk, ask, name, words)
         except Refused as it:
             return name, it.name, it.right
         finally:
@@ -95,10 +95,9 @@ def refusal_of(desk, ask):
 
 def make(desk, ask, count):
     """Makes so many of the commands of an ask."""
-    filed = len(desk.requests) + 1
-    for name, words in itertools.islice(commands(ask, filed), count):
+    for name, words in itertools.islice(commands(ask), count):
         try:
-            desk.ask(ask.at, ask.by, name, words)
+            do(desk, ask, name, words)
         except Refused:
             return
 

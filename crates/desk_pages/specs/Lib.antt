@@ -4,6 +4,7 @@ pub mod Chips
 pub mod Facts
 pub mod Fault
 pub mod Fields
+pub mod Filed
 pub mod Find
 pub mod Frame
 pub mod History

@@ -10,7 +10,7 @@ use Rattle.desk_pages.specs.Refused.{crumb, heading_of, notice_after, to_queue, 
 use Rattle.desk_pages.specs.Unsent.{said_of, title_of}
 use Rattle.desk_pages.specs.Write.{comment, reply}
 use Rattle.desk_pages.specs.declared.frame.Place.TheVariants as place
-use Rattle.desk_pages.specs.declared.markup.refused.TheConstants.{FILED_NOTE, REPLIED_NOTE}
+use Rattle.desk_pages.specs.declared.markup.refused.TheConstants.{REPLIED_NOTE}
 use Rattle.desk_pages.specs.declared.markup.refused.TheConstants.{TO_QUEUES, TYPED_END, TYPED_TOP}
 use Rattle.desk_pages.specs.declared.unsent.Unsent.{Unsent}
 use Rattle.desk_pages.specs.declared.unsent.Unsent.TheVariants.{Refused}
@@ -68,15 +68,6 @@ unsent_ask_page why caller moment queue subject text requestors status =
     ++ (to_queue (is_found why) queue ++ bottom moment)))
 
 -- ---- of two commands the second is refused
-
--- a new request is filed, which is its first entry, and its text is refused: the form has it
-abbrev pub filed_page : Refusal → List ℕ → ℕ → ℕ → List ℕ → List Part
-filed_page why caller moment id text =
-    top (heading_of why) place.Elsewhere caller
-    ++ (crumb id
-    ++ (notice_after why
-    ++ (filled FILED_NOTE.now (decimal id ∷ []) []
-    ++ (typed (reply id caller 1 text None false) ++ (to_request id ++ bottom moment)))))
 
 -- a reply is sent, and the move to this status is refused
 abbrev pub replied_page : Refusal → List ℕ → ℕ → ℕ → List ℕ → List Part

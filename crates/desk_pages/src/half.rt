@@ -1,41 +1,16 @@
-//! The pages of a form of whose two commands the second was refused: they say what was done and what
-//! wasn't, and keep a text that wasn't sent.
+//! The page of a form of whose two commands the second was refused: it says what was done and what
+//! wasn't.
 ghost use Rattle.std.specs.Prelude.{◌≡◌, IfOk};
 ghost use Rattle.page_core.specs.Page.{page_bytes};
 ghost use Rattle.desk_pages.specs.RefusalPage as form;
 
 use crate::frame::{Place, put_bottom, put_top};
-use crate::markup::refused::{FILED_NOTE, REPLIED_NOTE};
-use crate::refusal::put_reply_form;
+use crate::markup::refused::REPLIED_NOTE;
 use crate::refused::{heading_of, put_crumb, put_refusal_after, put_to_request};
 use desk_model::Refusal;
 use hours_core::Minute;
 use page_core::{Value, fill};
 use std::alloc::{AllocError, Global};
-
-/// The page for a caller at a moment whose new request is filed, with this number, but whose text
-/// was refused: it says so, and the form for a reply has the text. The first entry is the filing.
-pub fn filed_page(
-    alloc: Global,
-    refusal: &Refusal,
-    caller: &str,
-    moment: Minute,
-    id: u32,
-    text: &str,
-) -> Result<Vec<u8>, AllocError>
-    ensures { IfOk result (λ page. page.items
-        ≡ page_bytes (form.filed_page refusal.now caller.now moment id text.now)) }
-{
-    let mut out = Vec::new(alloc);
-    put_top(&mut out, heading_of(refusal), Place::Elsewhere, caller)?;
-    put_crumb(&mut out, id)?;
-    put_refusal_after(&mut out, refusal)?;
-    fill(&mut out, FILED_NOTE, &[Value::Number(id)], &[])?;
-    put_reply_form(&mut out, id, caller, 1, text, None, false)?;
-    put_to_request(&mut out, id)?;
-    put_bottom(&mut out, moment)?;
-    Ok(out)
-}
 
 /// The page for a caller at a moment whose reply to the request of this number was sent, but who
 /// chose a status that was refused: it says so.

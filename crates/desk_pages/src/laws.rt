@@ -15,13 +15,13 @@ ghost use Rattle.find_form.specs.declared.shown.Start.{Start};
 ghost use Rattle.page_core.specs.Markup.{SameMarkup};
 ghost use Rattle.desk_pages.specs.Ask.{usual_told};
 ghost use Rattle.desk_pages.specs.Fault.{fault_page};
+ghost use Rattle.desk_pages.specs.Filed.{filed_page};
 ghost use Rattle.desk_pages.specs.Find.{find_fault_page, find_page, found_told};
 ghost use Rattle.desk_pages.specs.History.{kinds_told, newer_entries};
 ghost use Rattle.desk_pages.specs.Home.{home_page, home_told};
 ghost use Rattle.desk_pages.specs.New.{new_page};
 ghost use Rattle.desk_pages.specs.Overtaken.{overtaken_page};
 ghost use Rattle.desk_pages.specs.RefusalPage.{
-  filed_page,
   is_found,
   refusal_page,
   replied_page,
@@ -88,6 +88,12 @@ pub fn sign_in_page_law()
         (kept_page other line persons last words chosen refused) }
 {}
 
+/// The page of a request that its filer may not see has the same markup whoever filed it.
+pub fn filed_page_law()
+    ensures { (caller other : List ℕ) (moment later id n : ℕ)
+        → SameMarkup (filed_page caller moment id) (filed_page other later n) }
+{}
+
 /// The page of a fault has the same markup whatever is wrong.
 pub fn fault_page_law()
     ensures { (heading another sentence words code name : List ℕ)
@@ -103,16 +109,12 @@ pub fn new_page_law()
         (new_page another other later first names) }
 {}
 
-/// The page of a refusal tells by its markup whether a right is lacking. So do the pages that say that
+/// The page of a refusal tells by its markup whether a right is lacking. So does the page that says that
 /// of two commands one was done.
 pub fn refusal_page_law()
     ensures plain { (why other : Refusal) (caller another : List ℕ) (moment later : ℕ)
         → is_denied why ≡ is_denied other
         → SameMarkup (refusal_page why caller moment) (refusal_page other another later) }
-    ensures filed { (why other : Refusal) (caller another : List ℕ) (moment later id n : ℕ)
-        (text words : List ℕ) → is_denied why ≡ is_denied other
-        → SameMarkup (filed_page why caller moment id text)
-        (filed_page other another later n words) }
     ensures replied { (why other : Refusal) (caller another : List ℕ) (moment later id n : ℕ)
         (status chosen : List ℕ) → is_denied why ≡ is_denied other
         → SameMarkup (replied_page why caller moment id status)

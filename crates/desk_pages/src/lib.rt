@@ -11,6 +11,7 @@ mod chips;
 mod facts;
 mod fault;
 mod fields;
+mod filed;
 mod find;
 mod frame;
 mod half;
@@ -43,13 +44,14 @@ mod write;
 
 pub use ask::Typed;
 pub use fault::fault_page;
+pub use filed::filed_page;
 pub use find::{find_fault_page, find_page};
 pub use frame::Place;
-pub use half::{filed_page, replied_page};
+pub use half::replied_page;
 pub use history::last_number;
 pub use home::home_page;
 pub use laws::{
-    fault_page_law, find_page_law, home_page_law, new_page_law, overtaken_page_law,
+    fault_page_law, filed_page_law, find_page_law, home_page_law, new_page_law, overtaken_page_law,
     refusal_page_law, request_page_law, sign_in_page_law, unsent_page_law, workload_page_law,
 };
 pub use new::new_page;

@@ -8,6 +8,7 @@ pub(crate) mod chips;
 pub(crate) mod facts;
 pub(crate) mod fault;
 pub(crate) mod fields;
+pub(crate) mod filed;
 pub(crate) mod find;
 pub(crate) mod frame;
 pub(crate) mod history;

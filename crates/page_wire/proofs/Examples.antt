@@ -11,17 +11,19 @@ use Rattle.desk_model.specs.declared.rows.EntryKind.{EntryKind}
 use Rattle.desk_model.specs.declared.rows.EntryKind.TheVariants as kind
 use Rattle.desk_model.specs.declared.rows.Turn.TheVariants.{Desk}
 use Rattle.desk_pages.specs.Overtaken.{overtaken_page}
-use Rattle.desk_pages.specs.RefusalPage.{filed_page, replied_page}
+use Rattle.desk_pages.specs.Filed.{filed_page}
+use Rattle.desk_pages.specs.RefusalPage.{replied_page}
 use Rattle.desk_pages.specs.SignIn.{kept_page}
 use Rattle.desk_pages.specs.declared.unsent.Unsent.TheVariants.{Ahead, BadForm, OtherPerson, Refused}
 use Rattle.message_core.specs.declared.message.Message.{Message}
 use Rattle.page_core.specs.Page.{page_bytes}
 use Rattle.page_routes.specs.declared.next.SubmittedForm.{SubmittedForm}
 use Rattle.page_routes.specs.declared.next.SubmittedForm.TheVariants as sent
+use Rattle.page_wire.specs.Forms.{is_hidden, new_request}
 use Rattle.page_wire.specs.Health.{asks_health}
-use Rattle.page_wire.specs.Next.{follow_up_command, next_text}
+use Rattle.page_wire.specs.Next.{first_text, follow_up_command}
 use Rattle.page_wire.specs.Redirect.{led_to}
-use Rattle.page_wire.specs.Replies.{bad_form_reply, done_reply, half_form, other_person_reply}
+use Rattle.page_wire.specs.Replies.{bad_form_reply, done_reply, filed_reply, half_form, other_person_reply}
 use Rattle.page_wire.specs.Replies.{refused_reply}
 use Rattle.page_wire.specs.Replies.{sign_in_form, unsent_form, with_page}
 use Rattle.page_wire.specs.Overtaken.{is_ahead, overtaker, overtakes, told_before}
@@ -33,35 +35,55 @@ use Rattle.page_wire.specs.Twice.{has_moved, is_of, is_status, is_told, told_if_
 abbrev new : List ℕ → SubmittedForm
 new text = sent.New (codes "it") (codes "Ink") (codes "ann") text None
 
-text_of_a_new_request : next_text (new (codes "Hi")) ≡ Some (codes "Hi")
+text_of_a_new_request : first_text (new (codes "Hi")) ≡ Some (codes "Hi")
 text_of_a_new_request = refl
 
 -- spaces, a tab and the ends of two lines
-blank_text : next_text (new (codes " \t\r\n ")) ≡ None
+blank_text : first_text (new (codes " \t\r\n ")) ≡ None
 blank_text = refl
 
-no_text : next_text (new []) ≡ None
+no_text : first_text (new []) ≡ None
 no_text = refl
 
-text_that_begins_with_a_space : next_text (new (codes " Hi")) ≡ Some (codes " Hi")
+text_that_begins_with_a_space : first_text (new (codes " Hi")) ≡ Some (codes " Hi")
 text_that_begins_with_a_space = refl
 
-status_beside_a_reply :
-    next_text (sent.Reply 7 3 (codes "Hi") (Some (codes "open"))) ≡ Some (codes "open")
-status_beside_a_reply = refl
+text_of_a_reply : first_text (sent.Reply 7 3 (codes "Hi") None) ≡ None
+text_of_a_reply = refl
 
-nothing_after_a_comment : next_text (sent.Comment 7 (codes "Hi")) ≡ None
+nothing_after_a_comment : follow_up_command (sent.Comment 7 (codes "Hi")) ≡ None
 nothing_after_a_comment = refl
 
--- to the request that was filed
-reply_to_a_new_request :
-    follow_up_command (new (codes "Hi")) (answer.Created 7) ≡ Some (command.Reply 7 (codes "Hi"))
-reply_to_a_new_request = refl
+-- the text goes with the filing
+nothing_after_a_new_request : follow_up_command (new (codes "Hi")) ≡ None
+nothing_after_a_new_request = refl
 
 move_after_a_reply :
-    follow_up_command (sent.Reply 7 3 (codes "Hi") (Some (codes "open"))) answer.Done
+    follow_up_command (sent.Reply 7 3 (codes "Hi") (Some (codes "open")))
     ≡ Some (command.SetStatus 7 (codes "open"))
 move_after_a_reply = refl
+
+nothing_after_a_reply_alone : follow_up_command (sent.Reply 7 3 (codes "Hi") None) ≡ None
+nothing_after_a_reply_alone = refl
+
+-- ---- a new request
+
+filed_by_its_form : new_request (new (codes "Hi")) (answer.Created 7) ≡ Some 7
+filed_by_its_form = refl
+
+nothing_filed_by_a_reply : new_request (sent.Reply 7 3 (codes "Hi") None) answer.Done ≡ None
+nothing_filed_by_a_reply = refl
+
+hidden_from_its_filer : is_hidden (Err refusal.NotFound) ≡ true
+hidden_from_its_filer = refl
+
+-- the desk couldn't look: one is led on
+not_looked_at : is_hidden (Err refusal.Unavailable) ≡ false
+not_looked_at = refl
+
+number_is_told :
+    filed_reply (codes "ann") 1000 7 ≡ with_page 200 (page_bytes (filed_page (codes "ann") 1000 7))
+number_is_told = refl
 
 -- ---- what is told
 
@@ -86,14 +108,8 @@ form_that_is_not_right :
     ≡ with_page 400 (page_bytes (unsent_form (codes "ann") 1000 (sent.Change 7) BadForm))
 form_that_is_not_right = refl
 
--- the text that wasn't sent stands there
-filed_without_its_text :
-    half_form (codes "ann") 1000 (new (codes "Hi")) (answer.Created 7) refusal.Full
-    ≡ filed_page refusal.Full (codes "ann") 1000 7 (codes "Hi")
-filed_without_its_text = refl
-
 replied_and_not_moved :
-    half_form (codes "ann") 1000 (sent.Reply 7 3 (codes "Hi") (Some (codes "open"))) answer.Done
+    half_form (codes "ann") 1000 (sent.Reply 7 3 (codes "Hi") (Some (codes "open")))
     refusal.NoTransition
     ≡ replied_page refusal.NoTransition (codes "ann") 1000 7 (codes "open")
 replied_and_not_moved = refl

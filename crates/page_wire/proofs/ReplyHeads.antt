@@ -59,8 +59,9 @@ use Rattle.wire_core.specs.Replies.{code_of_refusal, is_head}
 use Rattle.page_wire.specs.Faults.{clock_code, clock_heading, clock_reply, clock_sentence, code_of}
 use Rattle.page_wire.specs.Faults.{heading_of, methods_told, sentence_of}
 use Rattle.desk_pages.specs.Fault.{fault_page}
-use Rattle.page_wire.specs.Forms.{AfterFirst, IsTold, SecondSteps, StepsOnce, StepsUnless}
-use Rattle.page_wire.specs.Forms.{StepsUnrefused, UnlessTold, refused_before}
+use Rattle.page_wire.specs.Forms.{AfterFirst, DoneSteps, IsTold, SecondSteps, StepsOnce, StepsUnless}
+use Rattle.page_wire.specs.Forms.{StepsUnrefused, TellsFiled, UnlessTold, is_hidden, new_request}
+use Rattle.page_wire.specs.Forms.{refused_before}
 use Rattle.page_wire.specs.HeadOnly.{head_in, told_of}
 use Rattle.page_wire.specs.Heads.{IsPageReply, IsStated, IsValue, LeadsHere, RepliesAreStated}
 use Rattle.page_wire.specs.Next.{follow_up_command}
@@ -295,16 +296,27 @@ module _ (s : Settings) (at : ℕ) (caller : List ℕ) (bytes : List ℕ) where
   second_told sent a (Err r) (inl half) = so half (page_stated (code_of_refusal r) _ (refusal_code r))
   second_told sent a (Err r) (inr done) = so done (done_stated sent a)
 
+  filing_stated : (sent : SubmittedForm) (id : ℕ) (hidden : Bool)
+      → TellsFiled caller at sent id hidden bytes → IsStated bytes
+  filing_stated sent id true (inl number) = so number (page_stated 200 _ refl)
+  filing_stated sent id true (inr done) = so done (done_stated sent (answer.Created id))
+  filing_stated sent id false done = so done (done_stated sent (answer.Created id))
+
+  ended_stated : (sent : SubmittedForm) (a : Answer) (filed : Option ℕ) (old new : Desk)
+      → DoneSteps s at caller sent a filed old bytes new → IsStated bytes
+  ended_stated sent a None old new steps = so steps.0 (done_stated sent a)
+  ended_stated sent a (Some id) old new steps = filing_stated sent id (is_hidden steps.0) steps.2
+
   second_stated : (sent : SubmittedForm) (a : Answer) (second : Option Command) (old new : Desk)
       → SecondSteps s at caller sent a second old bytes new → IsStated bytes
-  second_stated sent a None old new steps = so steps.0 (done_stated sent a)
+  second_stated sent a None old new steps = ended_stated sent a (new_request sent a) old new steps
   second_stated sent a (Some second) old new steps = second_told sent a steps.0 steps.2
 
   first_stated : (sent : SubmittedForm) (outcome : Outcome) (old new : Desk)
       → AfterFirst s at caller sent outcome old bytes new → IsStated bytes
   first_stated sent (Err r) old new steps = so steps.0 (again_stated caller at sent r)
   first_stated sent (Ok a) old new steps =
-      second_stated sent a (follow_up_command sent a) old new steps
+      second_stated sent a (follow_up_command sent) old new steps
 
   unrefused_stated : (command : Command) (sent : SubmittedForm) (old new : Desk)
       → StepsUnrefused s at caller command sent old bytes new → IsStated bytes

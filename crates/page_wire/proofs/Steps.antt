@@ -22,6 +22,7 @@ use Rattle.find_form.specs.Shown.{place_of}
 use Rattle.find_form.specs.declared.shown.Start.{Start}
 use Rattle.service_core.specs.Dossiers.{DossierOn}
 use Rattle.service_core.specs.Filed.{FiledOn}
+use Rattle.service_core.specs.Filing.{FilesOn}
 use Rattle.service_core.specs.Finding.{FindsOn}
 use Rattle.service_core.specs.Homes.{HomeOn, part_of}
 use Rattle.service_core.specs.Leaves.{LeavesDesk}
@@ -37,9 +38,10 @@ use Rattle.store_tables.specs.Contents.{contents_of}
 use Rattle.wire_core.specs.Steps.{StaysOn}
 use Rattle.wire_core.proofs.Stepping.{leads_nowhere, leads_wider, stays}
 use Rattle.page_routes.specs.declared.next.SubmittedForm.{SubmittedForm}
-use Rattle.page_wire.specs.Forms.{FormStepsOn, IsTold, SecondStepsOn, StepsOnceOn, StepsUnless}
-use Rattle.page_wire.specs.Forms.{StepsUnrefusedOn, UnlessTold, refused_before}
-use Rattle.page_wire.specs.Next.{follow_up_command, next_text}
+use Rattle.page_wire.specs.Forms.{DoneStepsOn, FormStepsOn, IsTold, SecondStepsOn, StepsOnceOn}
+use Rattle.page_wire.specs.Forms.{StepsUnless, StepsUnrefusedOn, TellsFiled, UnlessTold, is_hidden}
+use Rattle.page_wire.specs.Forms.{refused_before}
+use Rattle.page_wire.specs.Next.{first_text, follow_up_command}
 use Rattle.page_wire.specs.Overtaken.{told_before}
 use Rattle.page_wire.specs.Replies.{done_reply, home_reply, refused_reply, request_reply}
 use Rattle.page_wire.specs.Twice.{told_request}
@@ -81,6 +83,15 @@ pub at_moment : (s : Settings) (n m : ℕ) (caller : List ℕ) (command : Comman
     → StepOverTables s (ask_by m caller command) outcome old new
 at_moment s n m caller command outcome old new same steps =
     subst (λ (at : ℕ). StepOverTables s (ask_by at caller command) outcome old new) same steps
+
+-- the same filing at the same moment, with the same text
+pub filed_at : (s : Settings) (n m : ℕ) (caller : List ℕ) (command : Command)
+    (text first : Option (List ℕ)) (outcome : Outcome) (old new : State) → n ≡ m → text ≡ first
+    → FilesOn s (ask_by n caller command) text outcome old new
+    → FilesOn s (ask_by m caller command) first outcome old new
+filed_at s n m caller command text first outcome old new same is steps =
+    subst (λ (at : ℕ). FilesOn s (ask_by at caller command) first outcome old new) same
+    (subst (λ (t : Option (List ℕ)). FilesOn s (ask_by n caller command) t outcome old new) is steps)
 
 -- ---- what came of a command, and the reply
 
@@ -171,7 +182,7 @@ looks s at caller id result (Err e) old new tells told = tt
 -- its command was refused
 pub form_refused : {X E : Type 0} (s : Settings) (at : ℕ) (caller : List ℕ) (command : Command)
     (sent : SubmittedForm) (refusal : Refusal) (r : Result X E) (bytes : List ℕ) (old new : State)
-    → StepOverTables s (ask_by at caller command) (Err refusal) old new
+    → FilesOn s (ask_by at caller command) (first_text sent) (Err refusal) old new
     → OnOk r (bytes ≡ refused_reply caller at sent refusal)
     → OnOk r (StepsUnrefusedOn s at caller command sent bytes old new)
 form_refused s at caller command sent refusal (Ok x) bytes old new steps told =
@@ -181,8 +192,8 @@ form_refused s at caller command sent refusal (Err e) bytes old new steps told =
 -- its command was done, and the second one followed, by settings that the first leaves
 pub form_done : (s t : Settings) (at : ℕ) (caller : List ℕ) (command : Command) (sent : SubmittedForm)
     (answer : Answer) (second : Option Command) (bytes : List ℕ) (old mid new : State) → t ≡ s
-    → WasClean mid new → second ≡ follow_up_command sent answer
-    → StepOverTables s (ask_by at caller command) (Ok answer) old mid
+    → WasClean mid new → second ≡ follow_up_command sent
+    → FilesOn s (ask_by at caller command) (first_text sent) (Ok answer) old mid
     → SecondStepsOn t at caller sent answer second bytes mid new
     → StepsUnrefusedOn s at caller command sent bytes old new
 form_done s t at caller command sent answer second bytes old mid new same honest is one two =
@@ -190,7 +201,7 @@ form_done s t at caller command sent answer second bytes old mid new same honest
     let next =
     subst (λ (c : Option Command). SecondStepsOn t at caller sent answer c bytes mid new) is two in
     let last =
-    subst (λ (u : Settings). SecondStepsOn u at caller sent answer (follow_up_command sent answer) bytes
+    subst (λ (u : Settings). SecondStepsOn u at caller sent answer (follow_up_command sent) bytes
     mid new) same next step.0 step.1.1 step.2 clean in
     (last.0, ((Ok answer, step.0, step.1.0, last.1.0), last.1.1), last.2)
 
@@ -219,7 +230,7 @@ form_begun s at caller command sent (Err e) bytes old new is steps = tt
 -- what it files was filed already
 pub filed_already : (s : Settings) (at : ℕ) (caller : List ℕ) (command : Command) (sent : SubmittedForm)
     (id : ℕ) (bytes : List ℕ) (old new : State)
-    → FiledOn s at caller command (next_text sent) (Ok (Some id)) old new
+    → FiledOn s at caller command (first_text sent) (Ok (Some id)) old new
     → bytes ≡ done_reply sent (Created id) → StepsOnceOn s at caller command sent None bytes old new
 filed_already s at caller command sent id bytes old new tells told =
     λ desk is stand clean. let found = tells desk is stand clean in
@@ -228,7 +239,7 @@ filed_already s at caller command sent id bytes old new tells told =
 -- the desk can't look whether it was
 pub not_looked : {X E : Type 0} (s : Settings) (at : ℕ) (caller : List ℕ) (command : Command)
     (sent : SubmittedForm) (refusal : Refusal) (r : Result X E) (bytes : List ℕ) (old new : State)
-    → FiledOn s at caller command (next_text sent) (Err refusal) old new → refusal ≡ Unavailable
+    → FiledOn s at caller command (first_text sent) (Err refusal) old new → refusal ≡ Unavailable
     → OnOk r (bytes ≡ refused_reply caller at sent refusal)
     → OnOk r (StepsOnceOn s at caller command sent None bytes old new)
 not_looked s at caller command sent refusal (Ok x) bytes old new tells fault told =
@@ -239,7 +250,7 @@ not_looked s at caller command sent refusal (Err e) bytes old new tells fault to
 -- it wasn't
 pub not_filed : {X E : Type 0} (s t : Settings) (at : ℕ) (caller : List ℕ) (command : Command)
     (sent : SubmittedForm) (r : Result X E) (bytes : List ℕ) (old mid new : State) → t ≡ s
-    → WasClean mid new → FiledOn s at caller command (next_text sent) (Ok None) old mid
+    → WasClean mid new → FiledOn s at caller command (first_text sent) (Ok None) old mid
     → OnOk r (StepsUnrefusedOn t at caller command sent bytes mid new)
     → OnOk r (StepsOnceOn s at caller command sent None bytes old new)
 not_filed s t at caller command sent (Ok x) bytes old mid new same honest tells steps =
@@ -292,12 +303,21 @@ stays_after P s t (Err e) old mid new same honest kept left = (
       stays desk is (stands kept (contents_of (due_of_row s desk) desk) stand) clean,
 )
 
--- there is no second command
-pub no_second : (s : Settings) (at : ℕ) (caller : List ℕ) (sent : SubmittedForm) (answer : Answer)
+-- nothing was filed
+pub done_plainly : (s : Settings) (at : ℕ) (caller : List ℕ) (sent : SubmittedForm) (answer : Answer)
     (bytes : List ℕ) (tables : State) → bytes ≡ done_reply sent answer
-    → SecondStepsOn s at caller sent answer None bytes tables tables
-no_second s at caller sent answer bytes tables told =
+    → DoneStepsOn s at caller sent answer None bytes tables tables
+done_plainly s at caller sent answer bytes tables told =
     leads_nowhere s _ tables (λ desk. (told, refl))
+
+-- this request was
+pub done_filing : (s : Settings) (at : ℕ) (caller : List ℕ) (sent : SubmittedForm) (answer : Answer)
+    (id : ℕ) (result : Result Dossier Refusal) (bytes : List ℕ) (old new : State)
+    → DossierOn s at caller id result old new → TellsFiled caller at sent id (is_hidden result) bytes
+    → DoneStepsOn s at caller sent answer (Some id) bytes old new
+done_filing s at caller sent answer id result bytes old new tells told =
+    λ desk is stand clean. let found = tells desk is stand clean in
+    (desk, ((result, found.0, (told, refl)), is), found.1)
 
 -- this came of it
 pub second_told : (s : Settings) (at : ℕ) (caller : List ℕ) (sent : SubmittedForm) (answer : Answer)

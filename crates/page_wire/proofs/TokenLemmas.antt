@@ -1,6 +1,6 @@
 -- What a message asks for, once it is known who asks, has nothing of the tokens.
 use Rattle.std.proofs.Common.{◌≡◌, ◌⊎◌, ℕ, Bool, true, false, List, Option, Some, None, Result, Ok, Err}
-use Rattle.std.proofs.Common.{◌∙◌, inl, inr, refl, subst, sym}
+use Rattle.std.proofs.Common.{◌∙◌, inl, inr, refl, ap, subst, sym, unwrap_or}
 use Rattle.std.specs.Option.{option_and_then}
 use Rattle.httparse.specs.Grammar.{RequestHead}
 use Rattle.hours_core.specs.Moment.{is_due_moment}
@@ -9,10 +9,10 @@ use Rattle.desk_core.specs.Lawful.{IsLawful}
 use Rattle.desk_core.specs.Laws.{Step}
 use Rattle.desk_model.specs.Desk.{Desk}
 use Rattle.desk_model.specs.Known.{is_known}
-use Rattle.desk_model.specs.Step.{Ask, Outcome, Steps, desk_after, outcome_of, refusal_beforehand}
+use Rattle.desk_model.specs.Step.{Ask, Outcome, Steps, desk_after, guard, outcome_of}
+use Rattle.desk_model.specs.Step.{refusal_beforehand}
 use Rattle.desk_model.specs.View.{view}
 use Rattle.desk_model.specs.declared.answer.Answer.{Answer}
-use Rattle.desk_model.specs.declared.answer.Answer.TheVariants.{Created}
 use Rattle.desk_model.specs.declared.answer.Dossier.{Dossier}
 use Rattle.desk_model.specs.declared.command.Command.{Command}
 use Rattle.desk_model.specs.declared.command.Command.TheVariants as command
@@ -39,14 +39,15 @@ use Rattle.page_routes.specs.declared.visit.PageRequest.{PageRequest}
 use Rattle.page_routes.specs.declared.visit.PageRequest.TheVariants as visit
 use Rattle.route_core.specs.Commands.{Asked, asked_of}
 use Rattle.service_core.specs.Dossiers.{IsDossier}
-use Rattle.service_core.specs.TableSteps.{IsStep}
+use Rattle.service_core.specs.Filing.{FilesUnless, IsFiling, refusal_of_text}
+use Rattle.service_core.specs.TableSteps.{IsStep, ask_by}
 use Rattle.wire_core.specs.Replies.{is_head}
 use Rattle.wire_core.specs.Steps.{CommandSteps, MessageSteps}
-use Rattle.page_wire.specs.Forms.{AfterFirst, FormSteps, SecondSteps, StepsOnce, StepsUnless}
-use Rattle.page_wire.specs.Forms.{StepsUnrefused, UnlessTold, refused_before}
+use Rattle.page_wire.specs.Forms.{AfterFirst, DoneSteps, FormSteps, SecondSteps, StepsOnce}
+use Rattle.page_wire.specs.Forms.{StepsUnless, StepsUnrefused, UnlessTold, new_request, refused_before}
 use Rattle.page_wire.specs.Health.{asks_health}
 use Rattle.page_wire.specs.Laws.{AsksAlike, TokensChangeNothing, with_tokens_of}
-use Rattle.page_wire.specs.Next.{follow_up_command}
+use Rattle.page_wire.specs.Next.{first_text, follow_up_command}
 use Rattle.page_wire.specs.Overtaken.{told_before}
 use Rattle.page_wire.specs.Replies as replies
 use Rattle.page_wire.specs.Steps.{Does, FindSteps, IfElse, LookSteps, LooksAt, MessageReadSteps}
@@ -202,6 +203,27 @@ module _ (s donor : Settings) where
   step ask old outcome new steps =
       record { step = steps_by ask old outcome new steps.step; laws = lawful ask old outcome new steps.laws }
 
+  files_unless : (o : Option Refusal) (ask : Ask) (text : List ℕ) (old : Desk) (outcome : Outcome)
+      (new : Desk)
+      → guard s ask.at ask.caller ask.command old ≡ guard other ask.at ask.caller ask.command old
+      → FilesUnless o s ask text old outcome new → FilesUnless o other ask text old outcome new
+  files_unless None ask text old outcome new same steps =
+      (steps.0, step ask old outcome steps.0 steps.1, steps.2)
+  files_unless (Some refusal) ask text old outcome new same steps = (
+    steps.0,
+    λ known. steps.1 known ∙ ap (λ (o : Option Refusal). Err (unwrap_or o refusal)) same,
+  )
+
+  filing : (at : ℕ) (caller : List ℕ) (asked : Command) (text : Option (List ℕ)) (old : Desk)
+      (outcome : Outcome) (new : Desk)
+      → IsFiling s (ask_by at caller asked) text old outcome new
+      → IsFiling other (ask_by at caller asked) text old outcome new
+  filing at caller (command.Create queue subject status requestors) None old outcome new steps =
+      step _ old outcome new steps
+  filing at caller (command.Create queue subject status requestors) (Some text) old outcome new steps =
+      files_unless (refusal_of_text s text) _ text old outcome new refl steps
+  filing at caller asked text old outcome new steps = step _ old outcome new steps
+
   dossier : (at : ℕ) (caller : List ℕ) (id : ℕ) (desk : Desk) (result : Result Dossier Refusal)
       → IsDossier s at caller id desk result → IsDossier other at caller id desk result
   dossier at caller id desk result told = record {
@@ -251,21 +273,31 @@ module _ (s donor : Settings) where
 
   module _ (at : ℕ) (caller : List ℕ) (command : Command) (sent : SubmittedForm) (new : Desk)
       (bytes : List ℕ) where
+    done : (answer : Answer) (id : Option ℕ) (old : Desk)
+        → DoneSteps s at caller sent answer id old bytes new
+        → DoneSteps other at caller sent answer id old bytes new
+    done answer None old steps = steps
+    done answer (Some id) old steps = (steps.0, dossier at caller id old steps.0 steps.1, steps.2)
+
     second : (answer : Answer) (next : Option Command) (old : Desk)
         → SecondSteps s at caller sent answer next old bytes new
         → SecondSteps other at caller sent answer next old bytes new
-    second answer None old steps = steps
+    second answer None old steps = done answer (new_request sent answer) old steps
     second answer (Some c) old steps = (steps.0, step _ old steps.0 new steps.1, steps.2)
 
     after : (outcome : Outcome) (mid : Desk) → AfterFirst s at caller sent outcome mid bytes new
         → AfterFirst other at caller sent outcome mid bytes new
-    after (Ok answer) mid steps = second answer (follow_up_command sent answer) mid steps
+    after (Ok answer) mid steps = second answer (follow_up_command sent) mid steps
     after (Err refusal) mid steps = steps
 
     unrefused : (old : Desk) → StepsUnrefused s at caller command sent old bytes new
         → StepsUnrefused other at caller command sent old bytes new
-    unrefused old steps =
-        (steps.0, steps.1, step _ old steps.0 steps.1 steps.2, after steps.0 steps.1 steps.3)
+    unrefused old steps = (
+      steps.0,
+      steps.1,
+      filing at caller command (first_text sent) old steps.0 steps.1 steps.2,
+      after steps.0 steps.1 steps.3,
+    )
 
     unless_told : (told : Option (List ℕ)) (old : Desk)
         → UnlessTold s at caller command sent told old bytes new
@@ -298,7 +330,7 @@ module _ (s donor : Settings) where
         → FormSteps other at caller command sent old bytes new
     form old steps =
         subst (λ (refusal : Option Refusal). StepsUnless other at caller command sent refusal old bytes new)
-        (same_refusal at caller (follow_up_command sent (Created 0)))
+        (same_refusal at caller (follow_up_command sent))
         (unless_refused (refused_before s at caller sent) old steps)
 
   -- ---- a message

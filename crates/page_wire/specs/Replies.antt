@@ -23,10 +23,11 @@ use Rattle.find_form.specs.declared.fault.FindFault.TheVariants.{NoMemory}
 use Rattle.find_form.specs.declared.form.FindForm.{FindForm}
 use Rattle.find_form.specs.declared.shown.Start.{Start}
 use Rattle.page_core.specs.Page.{Part, page_bytes}
+use Rattle.desk_pages.specs.Filed.{filed_page}
 use Rattle.desk_pages.specs.Find.{find_fault_page, find_page}
 use Rattle.desk_pages.specs.Home.{home_page}
 use Rattle.desk_pages.specs.New.{new_page}
-use Rattle.desk_pages.specs.RefusalPage.{filed_page, refusal_page, replied_page, unsent_ask_page}
+use Rattle.desk_pages.specs.RefusalPage.{refusal_page, replied_page, unsent_ask_page}
 use Rattle.desk_pages.specs.RefusalPage.{unsent_change_page, unsent_comment_page, unsent_page}
 use Rattle.desk_pages.specs.RefusalPage.{unsent_reply_page}
 use Rattle.desk_pages.specs.Request.{request_page}
@@ -215,15 +216,17 @@ abbrev pub resumed_reply : Bool → List ℕ → ℕ → List ℕ → Bool → S
 resumed_reply https caller at cookie keep sent =
     with_cookie (cookie_for https keep cookie) 200 (page_bytes (unsent_form caller at sent SignedIn))
 
--- its first command done and its second refused: what was done and what wasn't, with a text that
--- wasn't sent; no other form has a second command
-abbrev pub half_form : List ℕ → ℕ → SubmittedForm → Answer → Refusal → List Part
-half_form caller at (sent.New queue subject requestors text status) (answer.Created id) refusal =
-    filed_page refusal caller at id text
-half_form caller at (sent.Reply id seen text status) answer refusal =
-    replied_page refusal caller at id (unwrap_or status [])
-half_form caller at other answer refusal = refusal_page refusal caller at
+-- a new request that its filer may not see
+abbrev pub filed_reply : List ℕ → ℕ → ℕ → List ℕ
+filed_reply caller at id = with_page 200 (page_bytes (filed_page caller at id))
 
-abbrev pub half_reply : List ℕ → ℕ → SubmittedForm → Answer → Refusal → List ℕ
-half_reply caller at sent answer refusal =
-    with_page (code_of_refusal refusal) (page_bytes (half_form caller at sent answer refusal))
+-- its first command done and its second refused: what was done and what wasn't; no other form has a
+-- second command
+abbrev pub half_form : List ℕ → ℕ → SubmittedForm → Refusal → List Part
+half_form caller at (sent.Reply id seen text status) refusal =
+    replied_page refusal caller at id (unwrap_or status [])
+half_form caller at other refusal = refusal_page refusal caller at
+
+abbrev pub half_reply : List ℕ → ℕ → SubmittedForm → Refusal → List ℕ
+half_reply caller at sent refusal =
+    with_page (code_of_refusal refusal) (page_bytes (half_form caller at sent refusal))

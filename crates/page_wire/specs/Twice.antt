@@ -16,7 +16,7 @@ use Rattle.desk_model.specs.declared.rows.EntryKind.TheVariants as kind
 use Rattle.page_routes.specs.declared.next.SubmittedForm.{SubmittedForm}
 use Rattle.page_routes.specs.declared.next.SubmittedForm.TheVariants as sent
 use Rattle.service_core.specs.Filed.{filed_lately}
-use Rattle.page_wire.specs.Next.{next_text}
+use Rattle.page_wire.specs.Next.{first_text}
 use Rattle.page_wire.specs.Replies.{done_reply, refused_reply}
 
 -- the request to which a form sends a text
@@ -56,7 +56,7 @@ is_told caller at sent dossier =
 abbrev pub IsFiled : Settings → ℕ → List ℕ → Command → SubmittedForm → Desk → Result (Option ℕ) Refusal
     → Type 0
 IsFiled settings at caller command sent desk (Ok found) =
-    found ≡ filed_lately settings at caller command (next_text sent) desk
+    found ≡ filed_lately settings at caller command (first_text sent) desk
 IsFiled settings at caller command sent desk (Err refusal) = refusal ≡ Unavailable
 
 -- what is told in place of filing it again

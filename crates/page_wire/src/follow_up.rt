@@ -7,11 +7,12 @@ ghost use Rattle.service_core.specs.Seen.{settings_of, tables_of};
 ghost use Rattle.page_wire.specs.Forms.{TellsPartlyDone, SecondStepsOn};
 ghost use Rattle.page_wire.specs.Replies as form;
 
+use crate::done::tell_done;
 use crate::redirect::put_done;
 use crate::replies::with_page;
 use crate::sign_in::chosen;
 use desk_core::{Answer, Command, Refusal};
-use desk_pages::{filed_page, refusal_page, replied_page};
+use desk_pages::{refusal_page, replied_page};
 use hours_core::Minute;
 use page_routes::SubmittedForm;
 use service_core::Desk;
@@ -44,7 +45,7 @@ pub(crate) fn run_follow_up<S: Backend>(
             run_command(alloc, caller, &command, sent, answer, moment, desk, room);
             drop(command);
         }
-        None => put_done(sent, answer, room),
+        None => tell_done(alloc, caller, sent, answer, moment, desk, room),
     }
 }
 
@@ -89,7 +90,7 @@ fn put_half(
     requires room { 512 ≤ vec_capacity room.old }
     ensures { TellsPartlyDone caller.now moment sent.now answer.now refusal.now room.new.items }
 {
-    match half_reply(alloc, caller, moment, sent, answer, refusal) {
+    match half_reply(alloc, caller, moment, sent, refusal) {
         Ok(bytes) => *room = bytes,
         Err(_) => put_done(sent, answer, room),
     }
@@ -100,13 +101,12 @@ fn half_reply(
     caller: &str,
     moment: Minute,
     sent: &SubmittedForm,
-    answer: &Answer,
     refusal: &Refusal,
 ) -> Result<Vec<u8>, AllocError>
     ensures { IfOk result (λ out. out.items
-        ≡ form.half_reply caller.now moment sent.now answer.now refusal.now) }
+        ≡ form.half_reply caller.now moment sent.now refusal.now) }
 {
-    let page = half_page(alloc, caller, moment, sent, answer, refusal)?;
+    let page = half_page(alloc, caller, moment, sent, refusal)?;
     with_page(alloc, code_of_refusal(refusal), page)
 }
 
@@ -116,17 +116,13 @@ fn half_page(
     caller: &str,
     moment: Minute,
     sent: &SubmittedForm,
-    answer: &Answer,
     refusal: &Refusal,
 ) -> Result<Vec<u8>, AllocError>
     ensures { IfOk result (λ page. page.items ≡ page_bytes
-        (form.half_form caller.now moment sent.now answer.now refusal.now)) }
+        (form.half_form caller.now moment sent.now refusal.now)) }
 {
-    match (sent, answer) {
-        (SubmittedForm::New { text, .. }, Answer::Created(id)) => {
-            filed_page(alloc, refusal, caller, moment, *id, text.as_str())
-        }
-        (SubmittedForm::Reply { id, status, .. }, _) => {
+    match sent {
+        SubmittedForm::Reply { id, status, .. } => {
             replied_page(alloc, refusal, caller, moment, *id, chosen(status))
         }
         _ => refusal_page(alloc, refusal, caller, moment),

@@ -5,10 +5,12 @@
 //! the interface's step, byte for byte.
 //!
 //! A form may ask for two commands. The second is done only after the first, and where it is refused
-//! the reply says what was done and what wasn't. Before the first, a text that is sent to a request is
+//! the reply says what was done and what wasn't. A new request is filed with its first text, by one
+//! step. Before the first, a text that is sent to a request is
 //! held back where it was sent already, or where somebody wrote while it was written.
 #![tactic(auto)]
 
+mod done;
 mod faults;
 mod follow_up;
 mod head_only;

@@ -1,17 +1,17 @@
-//! The second command of a form, once its first is done.
+//! What a form brings beside its command.
 ghost use Rattle.std.specs.Prelude.{◌≡◌, IfOk};
-ghost use Rattle.std.specs.Option.{option_and_then};
+ghost use Rattle.std.specs.Option.{option_map};
+ghost use Rattle.desk_model.specs.declared.command.Command.TheVariants as command;
 ghost use Rattle.page_wire.specs.Next as form;
 
-use desk_core::{Answer, Command};
+use desk_core::Command;
 use page_routes::SubmittedForm;
 use std::alloc::{AllocError, Global};
 use text_core::Text;
 
-/// A copy of what the second command takes, if there is one: the first text of a new request, unless
-/// it is blank, and the status that was chosen with a reply.
-pub(crate) fn next_text(alloc: Global, sent: &SubmittedForm) -> Result<Option<Text>, AllocError>
-    ensures { IfOk result (λ text. text ≡ form.next_text sent.now) }
+/// A copy of the text with which a new request is filed, unless it is blank.
+pub(crate) fn first_text(alloc: Global, sent: &SubmittedForm) -> Result<Option<Text>, AllocError>
+    ensures { IfOk result (λ text. text ≡ form.first_text sent.now) }
 {
     match sent {
         SubmittedForm::New { text, .. } => {
@@ -21,17 +21,7 @@ pub(crate) fn next_text(alloc: Global, sent: &SubmittedForm) -> Result<Option<Te
                 Ok(Some(Text::new(alloc, text.as_str())?))
             }
         }
-        SubmittedForm::Reply { status, .. } => copied(alloc, status),
         _ => Ok(None),
-    }
-}
-
-fn copied(alloc: Global, text: &Option<Text>) -> Result<Option<Text>, AllocError>
-    ensures { IfOk result (λ copy. copy ≡ text.now) }
-{
-    match text {
-        Some(text) => Ok(Some(Text::new(alloc, text.as_str())?)),
-        None => Ok(None),
     }
 }
 
@@ -48,29 +38,29 @@ fn is_space(byte: u8) -> bool
     byte == b' ' || byte == b'\t' || byte == b'\n' || byte == b'\r'
 }
 
-/// The second command, after this answer to the first.
+/// The command that follows that of a form, if one does: after a reply, the move to the status that
+/// was chosen.
 pub(crate) fn follow_up_command(
+    alloc: Global,
     sent: &SubmittedForm,
-    answer: &Answer,
-    text: Option<Text>,
-) -> Option<Command>
-    ensures { result ≡ option_and_then (form.with_text sent.now answer.now) text }
+) -> Result<Option<Command>, AllocError>
+    ensures { IfOk result (λ second. second ≡ form.follow_up_command sent.now) }
 {
-    match text {
-        Some(text) => with_text(sent, answer, text),
-        None => None,
+    match sent {
+        SubmittedForm::Reply { id, status, .. } => move_to(alloc, *id, status),
+        _ => Ok(None),
     }
 }
 
-fn with_text(sent: &SubmittedForm, answer: &Answer, text: Text) -> Option<Command>
-    ensures { result ≡ form.with_text sent.now answer.now text }
+/// The move of a request to a status, if there is one.
+fn move_to(alloc: Global, id: u32, status: &Option<Text>) -> Result<Option<Command>, AllocError>
+    ensures { IfOk result (λ second. second ≡ option_map (λ s. command.SetStatus id s) status.now) }
 {
-    match (sent, answer) {
-        (SubmittedForm::New { .. }, Answer::Created(id)) => Some(Command::Reply { id: *id, text }),
-        (SubmittedForm::Reply { id, .. }, _) => Some(Command::SetStatus {
-            id: *id,
-            status: text,
-        }),
-        _ => None,
+    match status {
+        Some(status) => Ok(Some(Command::SetStatus {
+            id,
+            status: Text::new(alloc, status.as_str())?,
+        })),
+        None => Ok(None),
     }
 }

@@ -1,19 +1,18 @@
 //! What a form asks of the desk, and its reply.
-ghost use Rattle.std.specs.Prelude.{◌≡◌, ◌≤◌, [], IfOk, OnErr, OnOk, Some};
+ghost use Rattle.std.specs.Prelude.{◌≡◌, ◌≤◌, [], None, OnErr, OnOk, Some};
 ghost use Rattle.std.specs.Option.{option_and_then};
 ghost use Rattle.std.specs.Vec.{vec_capacity};
 ghost use Rattle.desk_model.specs.Step.{refusal_beforehand};
 ghost use Rattle.service_core.specs.Leaves.{LeavesDesk};
 ghost use Rattle.service_core.specs.Seen.{settings_of, tables_of};
 ghost use Rattle.page_wire.specs.Forms.{FormStepsOn, StepsOnceOn, StepsUnrefusedOn};
-ghost use Rattle.page_wire.specs.Forms.{refused_before as refused_first};
-ghost use Rattle.page_wire.specs.Next.{next_text as text_after};
+ghost use Rattle.page_wire.specs.Next as brought;
 ghost use Rattle.page_wire.specs.Replies as form;
 ghost use Rattle.page_wire.specs.Twice.{told_request as request_told};
 ghost use Rattle.wire_core.specs.Steps.{StaysOn};
 
 use crate::follow_up::run_follow_up;
-use crate::next::{follow_up_command, next_text};
+use crate::next::{first_text, follow_up_command};
 use crate::overtaken::told_before;
 use crate::redirect::put_done;
 use crate::twice::told_request;
@@ -28,9 +27,9 @@ use store_core::Backend;
 use text_core::Text;
 
 /// Does what a form asks for, its second command only where the first isn't refused, and puts its
-/// reply into the room. What the second would be refused for on every desk is refused before the
-/// first, what was sent or filed already isn't done again, and a reply that somebody overtook isn't sent
-/// yet. Out of memory nothing is done, and nothing is put.
+/// reply into the room. A new request is filed with its first text. What the second would be refused
+/// for on every desk is refused before the first, what was sent or filed already isn't done again, and a
+/// reply that somebody overtook isn't sent yet. Out of memory nothing is done, and nothing is put.
 #[tactic(auto, using(service_core::proofs::LeftLemmas::left_same))]
 pub(crate) fn submit_form<S: Backend>(
     alloc: Global,
@@ -50,29 +49,41 @@ pub(crate) fn submit_form<S: Backend>(
         (tables_of S.Store desk.old) (tables_of S.Store desk.new)) }
     ensures left { LeavesDesk S.Store desk.old desk.new }
 {
-    match refused_before(alloc, desk.settings(), caller, sent, moment) {
-        Ok(None) => submit_once(alloc, caller, command, sent, moment, desk, room),
-        Ok(Some(refusal)) => put_refused(alloc, caller, moment, sent, refusal, room),
+    match follow_up_command(alloc, sent) {
+        Ok(second) => submit_with(alloc, caller, command, sent, second, moment, desk, room),
         Err(_) => Err(AllocError),
     }
 }
 
-/// What the second command of a form is refused for whatever stands on the desk, if for anything.
-fn refused_before(
+/// The same, with a copy of the second command: it was had before the first is done.
+#[tactic(auto, using(service_core::proofs::LeftLemmas::left_same))]
+fn submit_with<S: Backend>(
     alloc: Global,
-    settings: &Settings,
     caller: &str,
+    command: &Command,
     sent: &SubmittedForm,
+    second: Option<Command>,
     moment: Minute,
-) -> Result<Option<Refusal>, AllocError>
-    ensures { IfOk result (λ refusal.
-        refusal ≡ refused_first settings.now moment caller.now sent.now) }
+    desk: &mut Desk<S>,
+    room: &mut Vec<u8>,
+) -> Result<(), AllocError>
+    requires second { second ≡ brought.follow_up_command sent.now }
+    requires empty { room.old.items ≡ [] }
+    requires room { 512 ≤ vec_capacity room.old }
+    ensures ok { OnOk result (FormStepsOn (settings_of S.Store desk.old) moment caller.now
+        command.now sent.now room.new.items (tables_of S.Store desk.old)
+        (tables_of S.Store desk.new)) }
+    ensures err { OnErr result ((room.new ≡ room.old) × StaysOn (settings_of S.Store desk.old)
+        (tables_of S.Store desk.old) (tables_of S.Store desk.new)) }
+    ensures left { LeavesDesk S.Store desk.old desk.new }
 {
-    let text = next_text(alloc, sent)?;
-    let second = follow_up_command(sent, &Answer::Created(0), text);
-    Ok(refusal_of(settings, caller, moment, &second))
+    match refusal_of(desk.settings(), caller, moment, &second) {
+        None => submit_once(alloc, caller, command, sent, second, moment, desk, room),
+        Some(refusal) => put_refused(alloc, caller, moment, sent, refusal, room),
+    }
 }
 
+/// What the second command is refused for whatever stands on the desk, if for anything.
 fn refusal_of(
     settings: &Settings,
     caller: &str,
@@ -96,10 +107,12 @@ fn submit_once<S: Backend>(
     caller: &str,
     command: &Command,
     sent: &SubmittedForm,
+    second: Option<Command>,
     moment: Minute,
     desk: &mut Desk<S>,
     room: &mut Vec<u8>,
 ) -> Result<(), AllocError>
+    requires second { second ≡ brought.follow_up_command sent.now }
     requires empty { room.old.items ≡ [] }
     requires room { 512 ≤ vec_capacity room.old }
     ensures ok { OnOk result (StepsOnceOn (settings_of S.Store desk.old) moment caller.now
@@ -110,8 +123,8 @@ fn submit_once<S: Backend>(
     ensures left { LeavesDesk S.Store desk.old desk.new }
 {
     match told_request(sent) {
-        Some(id) => submit_unless_told(alloc, caller, command, sent, id, moment, desk, room),
-        None => submit_unless_filed(alloc, caller, command, sent, moment, desk, room),
+        Some(id) => submit_unless_told(alloc, caller, command, sent, second, id, moment, desk, room),
+        None => submit_unless_filed(alloc, caller, command, sent, second, moment, desk, room),
     }
 }
 
@@ -123,10 +136,12 @@ fn submit_unless_filed<S: Backend>(
     caller: &str,
     command: &Command,
     sent: &SubmittedForm,
+    second: Option<Command>,
     moment: Minute,
     desk: &mut Desk<S>,
     room: &mut Vec<u8>,
 ) -> Result<(), AllocError>
+    requires second { second ≡ brought.follow_up_command sent.now }
     requires empty { room.old.items ≡ [] }
     requires room { 512 ≤ vec_capacity room.old }
     ensures ok { OnOk result (StepsOnceOn (settings_of S.Store desk.old) moment caller.now
@@ -136,24 +151,26 @@ fn submit_unless_filed<S: Backend>(
         (tables_of S.Store desk.old) (tables_of S.Store desk.new)) }
     ensures left { LeavesDesk S.Store desk.old desk.new }
 {
-    match next_text(alloc, sent) {
-        Ok(text) => submit_new(alloc, caller, command, sent, text, moment, desk, room),
+    match first_text(alloc, sent) {
+        Ok(text) => submit_new(alloc, caller, command, sent, second, text, moment, desk, room),
         Err(_) => Err(AllocError),
     }
 }
 
-/// The same, with a copy of what the second command takes.
+/// The same, with a copy of the first text of what is filed.
 fn submit_new<S: Backend>(
     alloc: Global,
     caller: &str,
     command: &Command,
     sent: &SubmittedForm,
+    second: Option<Command>,
     text: Option<Text>,
     moment: Minute,
     desk: &mut Desk<S>,
     room: &mut Vec<u8>,
 ) -> Result<(), AllocError>
-    requires text { text ≡ text_after sent.now }
+    requires second { second ≡ brought.follow_up_command sent.now }
+    requires text { text ≡ brought.first_text sent.now }
     requires empty { room.old.items ≡ [] }
     requires room { 512 ≤ vec_capacity room.old }
     ensures ok { OnOk result (StepsOnceOn (settings_of S.Store desk.old) moment caller.now
@@ -164,7 +181,7 @@ fn submit_new<S: Backend>(
     ensures left { LeavesDesk S.Store desk.old desk.new }
 {
     match desk.filed_lately(alloc, moment.get(), caller, command, &text) {
-        Ok(None) => submit(alloc, caller, command, sent, text, moment, desk, room),
+        Ok(None) => submit(alloc, caller, command, sent, second, &text, moment, desk, room),
         Ok(Some(id)) => {
             put_done(sent, &Answer::Created(id), room);
             Ok(())
@@ -179,11 +196,13 @@ fn submit_unless_told<S: Backend>(
     caller: &str,
     command: &Command,
     sent: &SubmittedForm,
+    second: Option<Command>,
     id: u32,
     moment: Minute,
     desk: &mut Desk<S>,
     room: &mut Vec<u8>,
 ) -> Result<(), AllocError>
+    requires second { second ≡ brought.follow_up_command sent.now }
     requires empty { room.old.items ≡ [] }
     requires room { 512 ≤ vec_capacity room.old }
     ensures ok { OnOk result (StepsOnceOn (settings_of S.Store desk.old) moment caller.now
@@ -201,7 +220,7 @@ fn submit_unless_told<S: Backend>(
             *room = bytes;
             Ok(())
         }
-        Ok(None) => submit_both(alloc, caller, command, sent, moment, desk, room),
+        Ok(None) => submit_both(alloc, caller, command, sent, second, moment, desk, room),
         Err(_) => Err(AllocError),
     }
 }
@@ -213,10 +232,12 @@ fn submit_both<S: Backend>(
     caller: &str,
     command: &Command,
     sent: &SubmittedForm,
+    second: Option<Command>,
     moment: Minute,
     desk: &mut Desk<S>,
     room: &mut Vec<u8>,
 ) -> Result<(), AllocError>
+    requires second { second ≡ brought.follow_up_command sent.now }
     requires empty { room.old.items ≡ [] }
     requires room { 512 ≤ vec_capacity room.old }
     ensures ok { OnOk result (StepsUnrefusedOn (settings_of S.Store desk.old) moment caller.now
@@ -226,24 +247,26 @@ fn submit_both<S: Backend>(
         (tables_of S.Store desk.old) (tables_of S.Store desk.new)) }
     ensures left { LeavesDesk S.Store desk.old desk.new }
 {
-    match next_text(alloc, sent) {
-        Ok(text) => submit(alloc, caller, command, sent, text, moment, desk, room),
+    match first_text(alloc, sent) {
+        Ok(text) => submit(alloc, caller, command, sent, second, &text, moment, desk, room),
         Err(_) => Err(AllocError),
     }
 }
 
-/// The same, with a copy of what the second command takes: it was had before the first is done.
+/// The same, with a copy of the first text of what is filed.
 fn submit<S: Backend>(
     alloc: Global,
     caller: &str,
     command: &Command,
     sent: &SubmittedForm,
-    text: Option<Text>,
+    second: Option<Command>,
+    text: &Option<Text>,
     moment: Minute,
     desk: &mut Desk<S>,
     room: &mut Vec<u8>,
 ) -> Result<(), AllocError>
-    requires text { text ≡ text_after sent.now }
+    requires second { second ≡ brought.follow_up_command sent.now }
+    requires text { text.now ≡ brought.first_text sent.now }
     requires empty { room.old.items ≡ [] }
     requires room { 512 ≤ vec_capacity room.old }
     ensures ok { OnOk result (StepsUnrefusedOn (settings_of S.Store desk.old) moment caller.now
@@ -253,9 +276,8 @@ fn submit<S: Backend>(
         (tables_of S.Store desk.old) (tables_of S.Store desk.new)) }
     ensures left { LeavesDesk S.Store desk.old desk.new }
 {
-    match desk.execute(alloc, moment.get(), caller, command) {
+    match desk.file(alloc, moment.get(), caller, command, text) {
         Ok(answer) => {
-            let second = follow_up_command(sent, &answer, text);
             run_follow_up(alloc, caller, second, sent, &answer, moment, desk, room);
             drop(answer);
             Ok(())

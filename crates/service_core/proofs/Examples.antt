@@ -7,10 +7,12 @@ use Rattle.settings_core.specs.declared.settings.Settings.{Settings}
 use Rattle.desk_model.specs.Known.{knows_status}
 use Rattle.desk_model.specs.Lifecycles.{has_status}
 use Rattle.desk_model.specs.Rights.{may_show}
+use Rattle.desk_model.specs.Desk.{empty_desk}
+use Rattle.desk_model.specs.declared.answer.Answer.TheVariants as answer
 use Rattle.desk_model.specs.declared.command.Command.{Command}
 use Rattle.desk_model.specs.declared.command.Command.TheVariants.{Create, Take}
 use Rattle.desk_model.specs.declared.facts.SeenRequest.{SeenRequest}
-use Rattle.desk_model.specs.declared.refusal.Refusal.TheVariants.{BadMoment}
+use Rattle.desk_model.specs.declared.refusal.Refusal.TheVariants.{BadMoment, BadText, Full}
 use Rattle.desk_model.specs.declared.rows.Entry.{Entry}
 use Rattle.desk_model.specs.declared.rows.EntryKind.{EntryKind}
 use Rattle.desk_model.specs.declared.rows.EntryKind.TheVariants.{Comment, Reply, Status}
@@ -24,6 +26,7 @@ use Rattle.find_core.specs.declared.home.Home.{Home}
 use Rattle.find_core.specs.declared.search.Findings.{Findings}
 use Rattle.service_core.specs.Attaching.{of_queues}
 use Rattle.service_core.specs.Filed.{are_requestors, is_as, is_filed_with, is_filer, is_row, numbers_down}
+use Rattle.service_core.specs.Filing.{entries_of_text, refusal_of_text, text_entry, text_taken, with_text}
 use Rattle.service_core.specs.Homes.{part_of}
 use Rattle.service_core.specs.Shown.{is_told, numbers_at}
 use Rattle.service_core.specs.declared.links.End.TheVariants.{Source, Target}
@@ -233,3 +236,57 @@ part_of_a_page = refl
 
 part_of_a_refusal : part_of (λ h. h.loads) (Err BadMoment) ≡ Err BadMoment
 part_of_a_refusal = refl
+
+-- ---- a filing with its text
+
+abbrev create : Command
+create = Create (codes "general") (codes "Ink") None []
+
+text_of_a_filing : text_taken create (Some (codes "It is empty.")) ≡ Some (codes "It is empty.")
+text_of_a_filing = refl
+
+no_text_of_a_filing : text_taken create None ≡ None
+no_text_of_a_filing = refl
+
+text_of_another_command : text_taken (Take 7) (Some (codes "It is empty.")) ≡ None
+text_of_another_command = refl
+
+empty_text : (settings : Settings) → refusal_of_text settings [] ≡ Some BadText
+empty_text settings = refl
+
+room_for_one_entry :
+    (settings : Settings)
+    → refusal_of_text (record settings { max_entries = 1 }) (codes "Hi") ≡ Some Full
+room_for_one_entry settings = refl
+
+room_for_two : (settings : Settings)
+    → refusal_of_text (record settings { max_entries = 2 }) (codes "Hi") ≡ None
+room_for_two settings = refl
+
+-- a text that isn't of its form is told first
+bad_text_without_room :
+    (settings : Settings) → refusal_of_text (record settings { max_entries = 1 }) [] ≡ Some BadText
+bad_text_without_room settings = refl
+
+second_entry :
+    text_entry 7 29546970 (codes "ann") (codes "Hi")
+    ≡ record {
+      id = 7;
+      number = 2;
+      moment = 29546970;
+      actor = codes "ann";
+      kind = Reply;
+      head = [];
+      body = codes "Hi";
+    }
+second_entry = refl
+
+nothing_filed : with_text 29546970 (codes "ann") (codes "Hi") (Ok answer.Done) empty_desk ≡ empty_desk
+nothing_filed = refl
+
+nothing_filed_where_refused :
+    with_text 29546970 (codes "ann") (codes "Hi") (Err BadMoment) empty_desk ≡ empty_desk
+nothing_filed_where_refused = refl
+
+no_entry_without_a_request : entries_of_text (codes "ann") (codes "Hi") None ≡ []
+no_entry_without_a_request = refl

@@ -19,6 +19,7 @@ pub mod Telling
 pub mod SightLemmas
 pub mod FoundAlike
 pub mod FiledLemmas
+pub mod FilingLemmas
 pub mod FindLemmas
 mod HomeLemmas
 pub mod LoadsAlike

@@ -37,7 +37,7 @@ abbrev IsUnavailable : Refusal → Type 0
 IsUnavailable Unavailable = Unit {0}
 IsUnavailable other = ⊥
 
-unavailable_or : (refusal : Refusal) → (refusal ≡ Unavailable) ⊎ (refusal ≢ Unavailable)
+pub unavailable_or : (refusal : Refusal) → (refusal ≡ Unavailable) ⊎ (refusal ≢ Unavailable)
 unavailable_or Unavailable = inl refl
 unavailable_or other = inr (λ e. subst IsUnavailable (sym e) tt)
 
@@ -58,7 +58,7 @@ refused s ask desk refusal refuses =
           )
     ]
 
-done : (s : Settings) (ask : Ask) (desk : Desk) (answer : Answer)
+pub done : (s : Settings) (ask : Ask) (desk : Desk) (answer : Answer)
     → guard s ask.at ask.caller ask.command desk ≡ None
     → answer ≡ answer_of s ask.at ask.caller ask.command desk
     → Steps s ask.at ask.caller ask.command desk (Ok answer)

@@ -5,6 +5,7 @@ pub mod Decided
 pub mod Dossiers
 pub mod Fault
 pub mod Filed
+pub mod Filing
 pub mod Finding
 pub mod Homes
 pub mod Leaves

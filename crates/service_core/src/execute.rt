@@ -109,7 +109,7 @@ fn step_on_facts<S: Backend>(
 }
 
 /// Writes a change, and tells which request it filed, or that it is done.
-fn write<S: Backend>(store: &mut Store<S>, change: Change) -> Result<Answer, Refusal>
+pub(crate) fn write<S: Backend>(store: &mut Store<S>, change: Change) -> Result<Answer, Refusal>
     ensures done { IfOk result (λ answer. (answer ≡ answer_of_change change)
         × Writes change (state_of S.Store store.old) (state_of S.Store store.new)) }
     ensures undone { OnErr result

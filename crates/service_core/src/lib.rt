@@ -8,6 +8,8 @@
 //!   tables, and writes nothing.
 //! - `Desk::execute` is one step (`StepOverTables`), to a well-formed desk, with the laws beside it
 //!   (`IsStep`); or `Unavailable`. A refusal changes no table, whatever rows there are.
+//! - `Desk::file` is such a step too, and where it files a request with a text, one entry more
+//!   (`FilesOn`), in one transaction.
 //! - `Desk::execute_all` is a run of such steps, to a well-formed desk (`RunsOn`). Where there is no
 //!   room for its answers nothing is done.
 //! - `Desk::execute_as_text` is `execute` and the text of what came of it (`TellsOn`). A command that changes
@@ -38,6 +40,7 @@ pub mod dues;
 mod execute;
 pub mod fault;
 mod filed;
+mod filing;
 mod find;
 mod home;
 mod known;

@@ -41,11 +41,6 @@ pub(crate) const TO_QUEUE: &str = r#"[<p><a class="button" href="/desk/queues/{}
 pub(crate) const TO_QUEUES: &str = r#"<p><a class="button" href="/">To the queues</a></p>
 "#;
 
-/// The number of the request.
-pub(crate) const FILED_NOTE: &str =
-    r#"<p>Request {} is filed, but its text was not sent. Here it is still.</p>
-"#;
-
 /// The status.
 pub(crate) const REPLIED_NOTE: &str =
     r#"<p>Your reply was sent, but the request was not made {}.</p>
