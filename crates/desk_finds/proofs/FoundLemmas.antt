@@ -29,8 +29,8 @@ use Rattle.desk_model.specs.declared.rows.Watcher.{Watcher}
 use Rattle.desk_core.proofs.EachRequest.{found_each}
 use Rattle.desk_core.proofs.InView.{filter_within}
 use Rattle.desk_core.proofs.Roles.{same_number}
-use Rattle.find_core.specs.Conditions.{has_owner, has_requestor, has_status, is_asked, is_due}
-use Rattle.find_core.specs.Conditions.{is_filed, is_in, meets, texts_sought}
+use Rattle.find_core.specs.Conditions.{has_owner, has_requestor, has_status, has_turn, is_asked}
+use Rattle.find_core.specs.Conditions.{is_due, is_filed, is_in, meets, texts_sought}
 use Rattle.find_core.specs.Find.{Sight, class_in, findings, found_among, last_of, replies_of}
 use Rattle.find_core.specs.Find.{sight_on}
 use Rattle.find_core.specs.Find.{sights}
@@ -125,8 +125,9 @@ module _ (s : Settings) (at : ℕ) (caller : List ℕ) (search : Search) (desk :
       let requested = is_requested search.requestor theirs row.id in
       let rest = has_status search.status class row.status
       && (has_owner search.owner row.owner
+      && (has_turn search.turn row.turn
       && (is_due at search.late (due row)
-      && is_filed search.filed_from search.filed_to row.created)) in
+      && is_filed search.filed_from search.filed_to row.created))) in
       let whole = and_parts (row_meets at search class (dated_by due row))
       (requested && may_show_by s caller row own) e in
       ap (λ a. is_in a row.queue) (sym same)
@@ -159,8 +160,8 @@ module _ (s : Settings) (at : ℕ) (caller : List ℕ) (search : Search) (desk :
       && (has_requestor search.requestor r.requestors && shows r)) dues
       ∙ asked_between (is_in search.queue r.row.queue) (has_status search.status class r.row.status)
       (has_owner search.owner r.row.owner)
-      (is_due at search.late (due_on s desk r)
-      && is_filed search.filed_from search.filed_to r.row.created)
+      (has_turn search.turn r.row.turn && (is_due at search.late (due_on s desk r)
+      && is_filed search.filed_from search.filed_to r.row.created))
       (has_requestor search.requestor r.requestors) (shows r)
 
   left_are : (rs : List Request) → Alike s caller own rs → HaveDues s desk rs → Requestors rs
@@ -343,12 +344,13 @@ module _ (s : Settings) (at : ℕ) (caller : List ℕ) (desk : Desk) (is : IsDes
         let live : is_live_class found.class ≡ true =
         open_alone (is_in search.queue found.queue) (is_live_class found.class)
         (has_owner search.owner found.owner) (has_requestor search.requestor found.requestors)
-        (is_due at search.late found.due) (is_filed search.filed_from search.filed_to found.filed)
+        (has_turn search.turn found.turn)
+        (is_due at search.late found.due && is_filed search.filed_from search.filed_to found.filed)
         (subst (λ (asked : StatusAsked). (is_in search.queue found.queue
         && (has_status asked found.class found.status
         && (has_owner search.owner found.owner && (has_requestor search.requestor found.requestors
-        && (is_due at search.late found.due
-        && is_filed search.filed_from search.filed_to found.filed))))) ≡ true) opens met) in
+        && (has_turn search.turn found.turn && (is_due at search.late found.due
+        && is_filed search.filed_from search.filed_to found.filed)))))) ≡ true) opens met) in
         ap (λ (b : Bool). b && true) live
 
     shown_too : (r : Request) → passes r ≡ true → may_show s caller (seen_request r) ≡ true

@@ -5,7 +5,7 @@ use Rattle.std.specs.Prelude.{Option, Some, None}
 use Rattle.std.specs.Fmt.{digits}
 use Rattle.lifecycle_core.specs.Lifecycle.{right_of_move}
 use Rattle.lifecycle_core.specs.Standard.{default_lifecycle}
-use Rattle.lifecycle_core.specs.declared.lifecycle.Class.TheVariants.{Active}
+use Rattle.lifecycle_core.specs.declared.lifecycle.Class.TheVariants.{Active, Inactive}
 use Rattle.lifecycle_core.specs.declared.parts.Parts.{Parts as LifecycleParts}
 use Rattle.rights_core.specs.People.{holds, is_member, leads_within, parts_of}
 use Rattle.rights_core.specs.Right.{comment_on_ticket, modify_ticket, own_ticket, reply_to_ticket}
@@ -25,6 +25,7 @@ use Rattle.desk_model.specs.declared.rows.EntryKind.{EntryKind}
 use Rattle.desk_model.specs.declared.rows.EntryKind.TheVariants as kind
 use Rattle.desk_model.specs.declared.rows.RequestRow.{RequestRow}
 use Rattle.desk_model.specs.declared.rows.Turn.TheVariants.{Desk}
+use Rattle.desk_model.specs.declared.rows.Turn.TheVariants as turn
 use Rattle.find_core.specs.declared.search.Found.{Found}
 use Rattle.find_core.specs.declared.search.Place as find
 use Rattle.find_form.specs.declared.form.FindForm.{FindForm}
@@ -52,6 +53,8 @@ use Rattle.desk_pages.specs.Refused.{crumb, front_after, front_of, to_request}
 use Rattle.desk_pages.specs.Request.{request_acts, request_shown, request_top, writing}
 use Rattle.desk_pages.specs.Rights.{may_change_owner, may_comment, may_modify, may_reply}
 use Rattle.desk_pages.specs.Rows.{asking, cells, late_by, row, row_end, row_told, row_top, table}
+use Rattle.desk_pages.specs.Rows.{waits_for}
+use Rattle.desk_pages.specs.declared.rows.TheConstants.{FOR_NOBODY}
 use Rattle.desk_pages.specs.Search.{chosen_in, search_form}
 use Rattle.desk_pages.specs.SignIn.{kept, sign_in_page}
 use Rattle.desk_pages.specs.Sought.{heading_of, is_told, place_of, title_of, told}
@@ -141,6 +144,7 @@ found =
       status = codes "new";
       class = None;
       owner = None;
+      turn = turn.Desk;
       due = Some 9;
       subject = codes "<b>";
       requestors = codes "bob" ∷ codes "eve" ∷ [];
@@ -153,6 +157,15 @@ row_at_its_very_minute = refl
 
 row_a_minute_later : row_told 10 found ≡ (2, true, true)
 row_a_minute_later = refl
+
+waits_for_an_answer : waits_for (Some Active) turn.Desk ≡ codes "the desk"
+waits_for_an_answer = refl
+
+waits_for_who_asked : waits_for None turn.Requestor ≡ codes "who asked"
+waits_for_who_asked = refl
+
+closed_waits_for_nobody : waits_for (Some Inactive) turn.Requestor ≡ FOR_NOBODY.now
+closed_waits_for_nobody = refl
 
 usual_status_of_two :
     usual_told (codes "open") (codes "new" ∷ codes "open" ∷ []) ≡ false ∷ true ∷ []
@@ -183,6 +196,7 @@ form =
       status = [];
       owner = [];
       requestor = [];
+      turn = [];
       late = codes "yes";
       from = [];
       to = [];
@@ -191,13 +205,15 @@ form =
 
 chosen_in_a_form :
     chosen_in form
-    ≡ false ∷ true ∷ false ∷ false ∷ true ∷ false ∷ true ∷ false ∷ false ∷ false ∷ false ∷ []
+    ≡ false ∷ true ∷ false ∷ false ∷ true ∷ false ∷ false ∷ true ∷ false ∷ true ∷ false ∷ false ∷ false
+    ∷ false ∷ []
 chosen_in_a_form = refl
 
 -- what stands first is chosen where nothing was typed
 chosen_in_an_empty_form :
     chosen_in (record form { late = []; order = [] })
-    ≡ false ∷ true ∷ false ∷ false ∷ false ∷ true ∷ false ∷ false ∷ false ∷ false ∷ false ∷ []
+    ≡ false ∷ true ∷ false ∷ false ∷ true ∷ false ∷ false ∷ false ∷ true ∷ false ∷ false ∷ false ∷ false
+    ∷ false ∷ []
 chosen_in_an_empty_form = refl
 
 -- ---- what is sought, in words
@@ -216,6 +232,11 @@ two_persons :
     title_of (record nothing { owner = codes "bob"; requestor = codes "Me" })
     ≡ codes "owned by bob, asked by me, Find"
 two_persons = refl
+
+for_whom_it_waits :
+    title_of (record nothing { queue = codes "help"; turn = codes "requestor" })
+    ≡ codes "in help, waits for who asked, Find"
+for_whom_it_waits = refl
 
 status_and_days :
     title_of
@@ -442,7 +463,8 @@ form_with_all_that_was_typed :
     ≡ filled SEARCH.now
     (codes "printer" ∷ codes "help" ∷ codes "new" ∷ codes "Me" ∷ codes "bob" ∷ codes "2026-03-01"
     ∷ codes "2026-03-09" ∷ [])
-    (true ∷ false ∷ true ∷ false ∷ false ∷ true ∷ false ∷ true ∷ false ∷ false ∷ false ∷ false ∷ [])
+    (true ∷ false ∷ true ∷ false ∷ false ∷ true ∷ false ∷ false ∷ true ∷ false ∷ true ∷ false ∷ false
+    ∷ false ∷ false ∷ [])
 unfolding search_form
 form_with_all_that_was_typed = refl
 

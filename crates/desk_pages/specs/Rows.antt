@@ -5,12 +5,15 @@ use Rattle.std.specs.List.{flat_map}
 use Rattle.std.specs.Str.{bytes_eq}
 use Rattle.lifecycle_core.specs.declared.lifecycle.Class.{Class}
 use Rattle.lifecycle_core.specs.declared.lifecycle.Class.TheVariants as class
+use Rattle.desk_model.specs.declared.rows.Turn.{Turn}
+use Rattle.desk_model.specs.declared.rows.Turn.TheVariants as turn
 use Rattle.desk_texts.specs.Words.{or_nobody}
 use Rattle.find_core.specs.declared.search.Found.{Found}
 use Rattle.page_core.specs.Page.{Part}
 use Rattle.page_core.specs.Template.{filled}
 use Rattle.page_core.specs.Values.{clock, day, span}
 use Rattle.desk_pages.specs.Pieces.{table_end, time_or_dash}
+use Rattle.desk_pages.specs.declared.rows.TheConstants.{FOR_NOBODY}
 use Rattle.desk_pages.specs.declared.markup.rows.TheConstants.{ASKING, ROW_CELLS, ROW_END}
 use Rattle.desk_pages.specs.declared.markup.rows.TheConstants.{ROW_TOP, TABLE_TOP}
 
@@ -36,6 +39,12 @@ word_of_class (Some class.Initial) = codes "initial"
 word_of_class (Some class.Active) = codes "active"
 word_of_class (Some class.Inactive) = codes "inactive"
 
+-- for whom a request waits; one that is closed waits for nobody
+abbrev pub waits_for : Option Class → Turn → List ℕ
+waits_for (Some class.Inactive) turn = FOR_NOBODY.now
+waits_for other turn.Desk = codes "the desk"
+waits_for other turn.Requestor = codes "who asked"
+
 -- its number and its subject; whose it is, and whether it is late, are classes of the row
 unfoldable pub row_top : List ℕ → Bool → Found → List Part
 row_top caller late found =
@@ -47,11 +56,12 @@ row_top caller late found =
 unfoldable pub asking : List ℕ → List Part
 asking person = filled ASKING.now (person ∷ []) []
 
--- its queue, status and owner
+-- its queue, its status, for whom it waits, and its owner
 unfoldable pub cells : Found → List Part
 cells found =
     filled ROW_CELLS.now
-    (found.queue ∷ word_of_class found.class ∷ found.status ∷ or_nobody found.owner ∷ []) []
+    (found.queue ∷ word_of_class found.class ∷ found.status ∷ waits_for found.class found.turn
+    ∷ or_nobody found.owner ∷ []) []
 
 -- what follows its due moment: whether it is late, and for how long, and when its last entry was made
 unfoldable pub row_end : Bool → ℕ → ℕ → List Part

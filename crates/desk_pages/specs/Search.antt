@@ -18,6 +18,9 @@ chosen_in form =
     ∷ is_empty form.state
     ∷ bytes_eq form.state (codes "open")
     ∷ bytes_eq form.state (codes "closed")
+    ∷ is_empty form.turn
+    ∷ bytes_eq form.turn (codes "desk")
+    ∷ bytes_eq form.turn (codes "requestor")
     ∷ is_ticked form.late
     ∷ is_newest form.order
     ∷ bytes_eq form.order (codes "oldest")

@@ -68,6 +68,11 @@ owner_value owner = if is_me owner || is_nobody owner then [] else owner
 abbrev pub asker : List ℕ → List ℕ
 asker requestor = if is_me requestor then codes "me" else requestor
 
+-- for whom it waits
+abbrev pub turn_front : List ℕ → List ℕ
+turn_front turn =
+    if bytes_eq turn (codes "desk") then codes "waits for the desk" else codes "waits for who asked"
+
 -- each part that a search may have, in the order in which they are told
 abbrev pub told_in : FindForm → List Told
 told_in form =
@@ -78,6 +83,7 @@ told_in form =
     ∷ told form.status (codes "status") (codes "status ") form.status
     ∷ told form.owner (codes "owner") (owner_front form.owner) (owner_value form.owner)
     ∷ told form.requestor (codes "requestor") (codes "asked by ") (asker form.requestor)
+    ∷ told form.turn (codes "turn") (turn_front form.turn) []
     ∷ told form.late (codes "late") (codes "late") []
     ∷ told form.from (codes "from") (codes "filed from ") form.from
     ∷ told form.to (codes "to") (codes "filed to ") form.to
@@ -89,7 +95,7 @@ told_in form =
 abbrev pub is_narrowed : FindForm → Bool
 is_narrowed form =
     is_word form.words || (is_word form.replies || (is_word form.status || (is_word form.owner
-    || (is_word form.requestor || (is_word form.from || is_word form.to)))))
+    || (is_word form.requestor || (is_word form.turn || (is_word form.from || is_word form.to))))))
 
 -- anything is sought
 abbrev pub is_set : FindForm → Bool

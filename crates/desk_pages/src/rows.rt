@@ -6,6 +6,7 @@ ghost use Rattle.desk_pages.specs.Rows as form;
 
 use crate::markup::rows::{ASKING, ROW_CELLS, ROW_END, ROW_TOP, TABLE_TOP};
 use crate::pieces::{name_or, put_table_end, put_time_or_dash};
+use desk_model::Turn;
 use find_core::Found;
 use hours_core::Minute;
 use lifecycle_core::Class;
@@ -99,6 +100,7 @@ fn put_cells(out: &mut Vec<u8>, found: &Found) -> Result<(), AllocError>
         Value::Text(found.queue.as_str()),
         Value::Text(class_word(found.class)),
         Value::Text(found.status.as_str()),
+        Value::Text(waits_for(found.class, found.turn)),
         Value::Text(name_or(&found.owner, "Nobody")),
     ];
     fill(out, ROW_CELLS, &values, &[])
@@ -121,6 +123,20 @@ fn put_row_end(out: &mut Vec<u8>, late: bool, by: u32, last: Minute) -> Result<(
         ],
         &[late],
     )
+}
+
+/// What is told of a request that waits for nobody.
+const FOR_NOBODY: &str = "–";
+
+/// For whom a request waits; one that is closed waits for nobody.
+fn waits_for(class: Option<Class>, turn: Turn) -> &'static str
+    ensures { result.now ≡ form.waits_for class turn }
+{
+    match (class, turn) {
+        (Some(Class::Inactive), _) => FOR_NOBODY,
+        (_, Turn::Desk) => "the desk",
+        (_, Turn::Requestor) => "who asked",
+    }
 }
 
 /// The word for the class of a status.

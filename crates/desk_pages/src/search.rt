@@ -32,10 +32,11 @@ pub(crate) fn put_search_form(
 }
 
 /// What is shown of it: whether it is unfolded, and what is ticked and chosen.
-fn shown_in(unfolded: bool, typed: &FindForm) -> [bool; 12]
+fn shown_in(unfolded: bool, typed: &FindForm) -> [bool; 15]
     ensures { result ≡ unfolded ∷ form.chosen_in typed.now }
 {
     let state = typed.state.as_str();
+    let turn = typed.turn.as_str();
     let order = typed.order.as_str();
     [
         unfolded,
@@ -43,6 +44,9 @@ fn shown_in(unfolded: bool, typed: &FindForm) -> [bool; 12]
         state.is_empty(),
         state == "open",
         state == "closed",
+        turn.is_empty(),
+        turn == "desk",
+        turn == "requestor",
         is_ticked(typed.late.as_str()),
         is_newest(order),
         order == "oldest",

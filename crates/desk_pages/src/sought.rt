@@ -33,7 +33,7 @@ const CLOSED: &str = "”";
 const NOBODYS: &str = "nobody’s";
 
 /// Each part that a search may have, and whether this one has it.
-pub(crate) fn sought_in(typed: &FindForm) -> [SearchPart<'_>; 10]
+pub(crate) fn sought_in(typed: &FindForm) -> [SearchPart<'_>; 11]
     ensures { map form.plain result ≡ form.told_in typed.now }
 {
     let owner = typed.owner.as_str();
@@ -54,6 +54,12 @@ pub(crate) fn sought_in(typed: &FindForm) -> [SearchPart<'_>; 10]
             "requestor",
             "asked by ",
             asker(typed.requestor.as_str()),
+        ),
+        sought_by(
+            typed.turn.as_str(),
+            "turn",
+            turn_front(typed.turn.as_str()),
+            "",
         ),
         sought_by(typed.late.as_str(), "late", "late", ""),
         sought_by(
@@ -124,6 +130,17 @@ fn asker(requestor: &str) -> &str
     if requestor == "Me" { "me" } else { requestor }
 }
 
+/// For whom it waits.
+fn turn_front(turn: &str) -> &'static str
+    ensures { result.now ≡ form.turn_front turn.now }
+{
+    if turn == "desk" {
+        "waits for the desk"
+    } else {
+        "waits for who asked"
+    }
+}
+
 /// Whether anything is sought that no list has in its heading.
 fn is_narrowed(typed: &FindForm) -> bool
     ensures { result ≡ form.is_narrowed typed.now }
@@ -133,6 +150,7 @@ fn is_narrowed(typed: &FindForm) -> bool
         || !typed.status.as_str().is_empty()
         || !typed.owner.as_str().is_empty()
         || !typed.requestor.as_str().is_empty()
+        || !typed.turn.as_str().is_empty()
         || !typed.from.as_str().is_empty()
         || !typed.to.as_str().is_empty()
 }

@@ -305,6 +305,8 @@ meter + meter::-moz-meter-bar { background: repeating-linear-gradient(135deg, va
   .list tr :is(th, td) { display: block; padding: 0; border: 0 }
   .list th[scope=row] { order: -1; width: 100% }
   .list tbody tr.late { box-shadow: inset .25rem 0 var(--late) }
+  .list .waits::before { content: "waits for " }
+  .list tr.inactive .waits { display: none }
   .list tbody tr.late > :first-child { box-shadow: none }
   .list caption { display: block }
   .fields { display: block }

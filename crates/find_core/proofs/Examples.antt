@@ -20,8 +20,8 @@ use Rattle.desk_model.specs.declared.rows.Turn.TheVariants as turn
 use Rattle.desk_model.specs.declared.rows.WatchRole.TheVariants.{Requestor, Cc}
 use Rattle.desk_model.specs.declared.rows.Watcher.{Watcher}
 use Rattle.desk_model.specs.Watchers.{watcher}
-use Rattle.find_core.specs.Conditions.{has_owner, has_requestor, has_status, is_asked, is_due}
-use Rattle.find_core.specs.Conditions.{is_filed, is_in, meets, texts_sought}
+use Rattle.find_core.specs.Conditions.{has_owner, has_requestor, has_status, has_turn, is_asked}
+use Rattle.find_core.specs.Conditions.{is_due, is_filed, is_in, meets, texts_sought}
 use Rattle.find_core.specs.Find.{Sight, findings_among, found_among, last_of, replies_of}
 use Rattle.find_core.specs.Find.{unless_refused}
 use Rattle.find_core.specs.Laws.{last_among}
@@ -230,6 +230,15 @@ second_of_two_requestors = refl
 no_requestor : has_requestor (Some (codes "bob")) (codes "ann" ∷ codes "cid" ∷ []) ≡ false
 no_requestor = refl
 
+waits_for_the_desk : has_turn (Some turn.Desk) turn.Desk ≡ true
+waits_for_the_desk = refl
+
+waits_for_who_asked : has_turn (Some turn.Desk) turn.Requestor ≡ false
+waits_for_who_asked = refl
+
+any_turn : has_turn None turn.Requestor ≡ true
+any_turn = refl
+
 no_requestor_is_asked_for : has_requestor None [] ≡ true
 no_requestor_is_asked_for = refl
 
@@ -273,6 +282,7 @@ found id due last =
       status = codes "open";
       class = Some Active;
       owner = None;
+      turn = turn.Desk;
       due = due;
       subject = codes "Printer jam";
       requestors = codes "ann" ∷ [];
@@ -509,6 +519,18 @@ row_due_at_the_moment :
     (dated (codes "general") (Some 500))
     ≡ false
 row_due_at_the_moment = refl
+
+row_that_waits_for_the_desk :
+    row_meets 500 (record (open_in None false) { turn = Some turn.Desk }) (Some Active)
+    (dated (codes "general") None)
+    ≡ true
+row_that_waits_for_the_desk = refl
+
+row_that_waits_for_who_asked :
+    row_meets 500 (record (open_in None false) { turn = Some turn.Requestor }) (Some Active)
+    (dated (codes "general") None)
+    ≡ false
+row_that_waits_for_who_asked = refl
 
 row_of_another_queue :
     row_meets 500 (open_in (Some (codes "general")) true) (Some Active)

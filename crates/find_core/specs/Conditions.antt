@@ -7,6 +7,8 @@ use Rattle.lifecycle_core.specs.declared.lifecycle.Class.{Class}
 use Rattle.text_core.specs.Texts.{is_among}
 use Rattle.desk_model.specs.Due.{is_live_class}
 use Rattle.desk_model.specs.Lifecycles.{is_inactive_class}
+use Rattle.desk_model.specs.declared.rows.Turn.{Turn}
+use Rattle.desk_model.specs.declared.rows.Turn.TheVariants as turn
 use Rattle.find_core.specs.Words.{has_words}
 use Rattle.find_core.specs.declared.search.Found.{Found}
 use Rattle.find_core.specs.declared.search.OwnerAsked.{OwnerAsked}
@@ -30,6 +32,15 @@ has_owner Anyone owner = true
 has_owner Nobody owner = not (is_some owner)
 has_owner (Person asked) owner = option_map_or (λ o. bytes_eq o asked) owner false
 
+abbrev pub is_turn : Turn → Turn → Bool
+is_turn turn.Desk turn.Desk = true
+is_turn turn.Requestor turn.Requestor = true
+is_turn _ _ = false
+
+-- it waits for the one who is asked for
+abbrev pub has_turn : Option Turn → Turn → Bool
+has_turn asked turn = option_map_or (λ t. is_turn t turn) asked true
+
 abbrev pub has_requestor : Option (List ℕ) → List (List ℕ) → Bool
 has_requestor asked requestors = option_map_or (is_among requestors) asked true
 
@@ -50,8 +61,9 @@ meets at search found =
     && (has_status search.status found.class found.status
     && (has_owner search.owner found.owner
     && (has_requestor search.requestor found.requestors
+    && (has_turn search.turn found.turn
     && (is_due at search.late found.due
-    && is_filed search.filed_from search.filed_to found.filed))))
+    && is_filed search.filed_from search.filed_to found.filed)))))
 
 -- where words are sought: in the subject, and in these replies if they are asked for
 abbrev pub texts_sought : Search → List ℕ → List (List ℕ) → List (List ℕ)

@@ -59,6 +59,7 @@ found_with class due last requestors row =
       status = row.status;
       class = class;
       owner = row.owner;
+      turn = row.turn;
       due = due;
       subject = row.subject;
       requestors = requestors;

@@ -28,6 +28,7 @@ open_in queue late =
       status = Open;
       owner = Anyone;
       requestor = None;
+      turn = None;
       late = late;
       filed_from = None;
       filed_to = None;

@@ -15,7 +15,8 @@ use Rattle.desk_model.specs.declared.rows.RequestRow.{RequestRow}
 use Rattle.desk_model.specs.declared.rows.Watcher.{Watcher}
 use Rattle.desk_model.specs.declared.rows.WatchRole.TheVariants.{Requestor}
 use Rattle.report_core.specs.Rows.{queue_among}
-use Rattle.find_core.specs.Conditions.{has_owner, has_status, is_due, is_filed, is_in, texts_sought}
+use Rattle.find_core.specs.Conditions.{has_owner, has_status, has_turn, is_due, is_filed, is_in}
+use Rattle.find_core.specs.Conditions.{texts_sought}
 use Rattle.find_core.specs.Find.{class_in, found_with, last_of, replies_of}
 use Rattle.find_core.specs.Places.{place_in}
 use Rattle.find_core.specs.Words.{has_words}
@@ -38,8 +39,9 @@ row_meets at search class dated =
     is_in search.queue dated.0.queue
     && (has_status search.status class dated.0.status
     && (has_owner search.owner dated.0.owner
+    && (has_turn search.turn dated.0.turn
     && (is_due at search.late dated.1
-    && is_filed search.filed_from search.filed_to dated.0.created)))
+    && is_filed search.filed_from search.filed_to dated.0.created))))
 
 -- the person may show the row, and it meets the search but for the words
 abbrev pub is_left : Settings → ℕ → List ℕ → Search → List Watcher → List Watcher → List QueueRow

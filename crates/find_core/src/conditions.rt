@@ -10,7 +10,7 @@ ghost use Rattle.find_core.specs.Find.{class_in};
 ghost use Rattle.find_core.specs.Rows as judged;
 
 use crate::search::{OwnerAsked, Search, StatusAsked};
-use desk_core::{QueueRow, RequestRow, WatchRole, Watcher, is_role};
+use desk_core::{QueueRow, RequestRow, Turn, WatchRole, Watcher, is_role};
 use hours_core::Minute;
 use lifecycle_core::Class;
 use report_core::{is_shown, queue_named, watches_of};
@@ -78,6 +78,7 @@ fn meets(
     is_in(&search.queue, &row.queue)
         && has_status(&search.status, class, &row.status)
         && has_owner(&search.owner, &row.owner)
+        && has_turn(search.turn, row.turn)
         && is_due(at, search.late, *due)
         && is_filed(search.filed_from, search.filed_to, row.created)
 }
@@ -168,6 +169,25 @@ fn has_owner(asked: &OwnerAsked, owner: &Option<Text>) -> bool
             Some(owner) => owner == asked,
             None => false,
         },
+    }
+}
+
+/// Whether the turn is the one that is asked for, if one is.
+fn has_turn(asked: Option<Turn>, turn: Turn) -> bool
+    ensures { result ≡ conditions.has_turn asked turn }
+{
+    match asked {
+        Some(asked) => is_turn(asked, turn),
+        None => true,
+    }
+}
+
+fn is_turn(asked: Turn, turn: Turn) -> bool
+    ensures { result ≡ conditions.is_turn asked turn }
+{
+    match (asked, turn) {
+        (Turn::Desk, Turn::Desk) | (Turn::Requestor, Turn::Requestor) => true,
+        _ => false,
     }
 }
 

@@ -34,6 +34,7 @@ pub fn open_ones(alloc: Global) -> Search
         status: StatusAsked::Open,
         owner: OwnerAsked::Anyone,
         requestor: None,
+        turn: None,
         late: false,
         filed_from: None,
         filed_to: None,

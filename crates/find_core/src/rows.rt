@@ -138,6 +138,7 @@ fn found_in(
         owner,
         level,
         created,
+        turn,
         ..
     } = row;
     drop(level);
@@ -147,6 +148,7 @@ fn found_in(
         status,
         class,
         owner,
+        turn,
         due,
         subject,
         requestors,

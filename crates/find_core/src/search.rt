@@ -3,6 +3,7 @@
 ghost use Rattle.std.specs.Prelude.{◌≡◌};
 ghost use Rattle.find_core.specs.Places as places;
 
+use desk_core::Turn;
 use hours_core::Minute;
 use lifecycle_core::Class;
 use text_core::{Sequence, Text, Texts};
@@ -21,6 +22,8 @@ pub struct Search {
     pub owner: OwnerAsked,
     /// One of the requestors, or anybody.
     pub requestor: Option<Text>,
+    /// Only what waits for the desk, or for who asked.
+    pub turn: Option<Turn>,
     /// Only what was due before the moment of the search.
     pub late: bool,
     /// Only what was filed at this moment or later.
@@ -79,6 +82,8 @@ pub struct Found {
     pub class: Option<Class>,
     /// Nobody owns it where this is absent.
     pub owner: Option<Text>,
+    /// Whom it waits for.
+    pub turn: Turn,
     /// When it is due, if a level says so.
     pub due: Option<Minute>,
     pub subject: Text,

@@ -5,6 +5,7 @@ use Rattle.std.specs.Prelude.{Some, None, Ok, Err}
 use Rattle.std.specs.Fmt.{digits}
 use Rattle.browser_core.specs.declared.form.Field.{Field}
 use Rattle.settings_form.specs.TextForms.{day_of}
+use Rattle.desk_model.specs.declared.rows.Turn.TheVariants as turn
 use Rattle.find_core.specs.declared.search.Found.{Found}
 use Rattle.find_core.specs.declared.search.Order.TheVariants.{ByNumber, ByDue, ByLast}
 use Rattle.find_core.specs.declared.search.OwnerAsked.TheVariants.{Anyone, Nobody, Person}
@@ -16,7 +17,8 @@ use Rattle.find_form.specs.HomeSearches.{asked_by, owned_by, unowned}
 use Rattle.find_form.specs.Query.{is_other, others_of}
 use Rattle.find_form.specs.Shown.{found_page, is_back, place_of, shown}
 use Rattle.find_form.specs.SearchFields.{day_asked, descends, fault_of, first_of_day, order_asked}
-use Rattle.find_form.specs.SearchFields.{owner_asked, person_asked, search_of, sought, status_asked, words_in}
+use Rattle.find_form.specs.SearchFields.{owner_asked, person_asked, search_of, sought, status_asked}
+use Rattle.find_form.specs.SearchFields.{turn_asked, words_in}
 use Rattle.find_form.specs.declared.fault.FindFault.TheVariants.{Name, Day, Choice, Both}
 use Rattle.find_form.specs.declared.form.FindForm.{FindForm}
 use Rattle.find_form.specs.declared.shown.Start.TheVariants.{First, After, Before}
@@ -71,6 +73,7 @@ blank =
       status = [];
       owner = [];
       requestor = [];
+      turn = [];
       late = [];
       from = [];
       to = [];
@@ -130,6 +133,18 @@ day_past_all_years = refl
 
 last_day_of_all : fault_of (record blank { to = codes "2099-12-31" }) ≡ None
 last_day_of_all = refl
+
+turn_of_the_desk : fault_of (record blank { turn = codes "desk" }) ≡ None
+turn_of_the_desk = refl
+
+turn_of_nobody : fault_of (record blank { turn = codes "nobody" }) ≡ Some Choice
+turn_of_nobody = refl
+
+desk_is_asked_for : turn_asked (codes "desk") ≡ Some turn.Desk
+desk_is_asked_for = refl
+
+no_turn_is_asked_for : turn_asked [] ≡ None
+no_turn_is_asked_for = refl
 
 tick_of_another_word : fault_of (record blank { late = codes "no" }) ≡ Some Choice
 tick_of_another_word = refl
@@ -268,6 +283,7 @@ nothing_typed_seeks_all :
       status = Any;
       owner = Anyone;
       requestor = None;
+      turn = None;
       late = false;
       filed_from = None;
       filed_to = None;
@@ -287,6 +303,7 @@ all_fields_seek :
       status = codes "open";
       owner = codes "Me";
       requestor = codes "bob";
+      turn = codes "requestor";
       late = codes "yes";
       from = codes "2026-03-09";
       to = codes "2026-03-09";
@@ -300,6 +317,7 @@ all_fields_seek :
       status = One (codes "open");
       owner = Person (codes "ann");
       requestor = Some (codes "bob");
+      turn = Some turn.Requestor;
       late = true;
       filed_from = Some 29550240;
       filed_to = Some 29551680;
@@ -367,6 +385,7 @@ found id =
       status = codes "open";
       class = None;
       owner = None;
+      turn = turn.Desk;
       due = None;
       subject = codes "Printer";
       requestors = [];

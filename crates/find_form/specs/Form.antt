@@ -9,7 +9,7 @@ use Rattle.find_form.specs.declared.form.FindForm.{FindForm}
 abbrev pub names : List (List ℕ)
 names =
     codes "words" ∷ codes "replies" ∷ codes "queue" ∷ codes "state" ∷ codes "status" ∷ codes "owner"
-    ∷ codes "requestor" ∷ codes "late" ∷ codes "from" ∷ codes "to" ∷ codes "order" ∷ []
+    ∷ codes "requestor" ∷ codes "turn" ∷ codes "late" ∷ codes "from" ∷ codes "to" ∷ codes "order" ∷ []
 
 -- each of the fields is one of these, and stands once
 abbrev pub are_known : List Field → Bool
@@ -29,6 +29,7 @@ filled fields =
       status = typed (codes "status") fields;
       owner = typed (codes "owner") fields;
       requestor = typed (codes "requestor") fields;
+      turn = typed (codes "turn") fields;
       late = typed (codes "late") fields;
       from = typed (codes "from") fields;
       to = typed (codes "to") fields;

@@ -16,6 +16,7 @@ open_by_due owner requestor =
       status = Open;
       owner = owner;
       requestor = requestor;
+      turn = None;
       late = false;
       filed_from = None;
       filed_to = None;

@@ -7,6 +7,8 @@ use Rattle.std.specs.Str.{bytes_eq}
 use Rattle.hours_core.specs.Moment.{is_due_moment}
 use Rattle.text_core.specs.Form.{is_name}
 use Rattle.settings_form.specs.TextForms.{day_of, is_day}
+use Rattle.desk_model.specs.declared.rows.Turn.{Turn}
+use Rattle.desk_model.specs.declared.rows.Turn.TheVariants.{Desk, Requestor}
 use Rattle.find_core.specs.declared.search.Order.{Order}
 use Rattle.find_core.specs.declared.search.Order.TheVariants.{ByNumber, ByDue, ByLast}
 use Rattle.find_core.specs.declared.search.OwnerAsked.{OwnerAsked}
@@ -57,6 +59,9 @@ is_tick text = is_empty text || is_ticked text
 abbrev pub is_state : List ℕ → Bool
 is_state text = is_empty text || (bytes_eq text (codes "open") || bytes_eq text (codes "closed"))
 
+abbrev pub is_turn : List ℕ → Bool
+is_turn text = is_empty text || (bytes_eq text (codes "desk") || bytes_eq text (codes "requestor"))
+
 abbrev pub is_by_due : List ℕ → Bool
 is_by_due text = bytes_eq text (codes "due") || bytes_eq text (codes "due-last")
 
@@ -82,7 +87,8 @@ has_days form = is_day_typed form.from && is_day_typed form.to
 
 abbrev pub has_choices : FindForm → Bool
 has_choices form =
-    is_tick form.replies && (is_tick form.late && (is_state form.state && is_order form.order))
+    is_tick form.replies && (is_tick form.late && (is_state form.state && (is_turn form.turn
+    && is_order form.order)))
 
 -- all of a class are asked for, and one status
 abbrev pub has_both : FindForm → Bool
@@ -123,6 +129,12 @@ state_asked state =
 abbrev pub status_asked : List ℕ → List ℕ → StatusAsked
 status_asked state status = if is_empty status then state_asked state else One status
 
+abbrev pub turn_asked : List ℕ → Option Turn
+turn_asked text =
+    if bytes_eq text (codes "desk") then Some Desk
+    else if bytes_eq text (codes "requestor") then Some Requestor
+    else None
+
 -- the first moment of a day, by its number
 abbrev pub first_of_day : ℕ → Option ℕ
 first_of_day day = if is_due_moment (day * 1440) then Some (day * 1440) else None
@@ -155,6 +167,7 @@ sought caller back form =
       status = status_asked form.state form.status;
       owner = owner_asked caller form.owner;
       requestor = person_asked caller form.requestor;
+      turn = turn_asked form.turn;
       late = is_ticked form.late;
       filed_from = day_asked 0 form.from;
       filed_to = day_asked 1 form.to;

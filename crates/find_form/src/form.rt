@@ -24,6 +24,8 @@ pub struct FindForm {
     pub owner: Text,
     /// A person's name or `Me`.
     pub requestor: Text,
+    /// `desk` or `requestor`: for whom it waits.
+    pub turn: Text,
     /// `yes` where only what is late is sought.
     pub late: Text,
     /// The first day on which it may have been filed.
@@ -78,6 +80,7 @@ fn are_known(fields: &[Field]) -> bool
             "status",
             "owner",
             "requestor",
+            "turn",
             "late",
             "from",
             "to",
@@ -97,6 +100,7 @@ fn filled(alloc: Global, fields: &[Field]) -> Result<FindForm, AllocError>
         status: typed(alloc, fields, "status")?,
         owner: typed(alloc, fields, "owner")?,
         requestor: typed(alloc, fields, "requestor")?,
+        turn: typed(alloc, fields, "turn")?,
         late: typed(alloc, fields, "late")?,
         from: typed(alloc, fields, "from")?,
         to: typed(alloc, fields, "to")?,

@@ -44,6 +44,7 @@ fn open_by_due(
         status: StatusAsked::Open,
         owner,
         requestor,
+        turn: None,
         late: false,
         filed_from: None,
         filed_to: None,

@@ -6,6 +6,7 @@ ghost use Rattle.find_form.specs.SearchFields as spec;
 use crate::fault::FindFault;
 use crate::form::FindForm;
 use crate::words::words_in;
+use desk_model::Turn;
 use find_core::{Order, OwnerAsked, Search, StatusAsked};
 use hours_core::Minute;
 use settings_form::form::TextForm;
@@ -96,6 +97,7 @@ fn has_choices(form: &FindForm) -> bool
     is_tick(form.replies.as_str())
         && is_tick(form.late.as_str())
         && is_state(form.state.as_str())
+        && is_turn(form.turn.as_str())
         && is_order(form.order.as_str())
 }
 
@@ -109,6 +111,12 @@ fn is_state(text: &str) -> bool
     ensures { result ≡ spec.is_state text.now }
 {
     text.is_empty() || text == "open" || text == "closed"
+}
+
+fn is_turn(text: &str) -> bool
+    ensures { result ≡ spec.is_turn text.now }
+{
+    text.is_empty() || text == "desk" || text == "requestor"
 }
 
 fn is_by_due(text: &str) -> bool
@@ -151,6 +159,7 @@ fn sought(alloc: Global, caller: &str, back: bool, form: &FindForm) -> Result<Se
         status: status_asked(alloc, form.state.as_str(), form.status.as_str())?,
         owner: owner_asked(alloc, caller, form.owner.as_str())?,
         requestor: person_asked(alloc, caller, form.requestor.as_str())?,
+        turn: turn_asked(form.turn.as_str()),
         late: form.late.as_str() == "yes",
         filed_from: day_asked(0, form.from.as_str()),
         filed_to: day_asked(1, form.to.as_str()),
@@ -224,6 +233,18 @@ fn status_asked(alloc: Global, state: &str, status: &str) -> Result<StatusAsked,
         Ok(state_asked(state))
     } else {
         Ok(StatusAsked::One(Text::new(alloc, status)?))
+    }
+}
+
+fn turn_asked(text: &str) -> Option<Turn>
+    ensures { result ≡ spec.turn_asked text.now }
+{
+    if text == "desk" {
+        Some(Turn::Desk)
+    } else if text == "requestor" {
+        Some(Turn::Requestor)
+    } else {
+        None
     }
 }
 

@@ -1,8 +1,8 @@
 //! The form for a search.
 
 /// Whether it is unfolded. The words, and whether they may stand in texts; the queue; which state,
-/// and one status; the owner and the requestor; whether only what is late, and the first and the
-/// last day; which order.
+/// and one status; the owner and the requestor; for whom it waits; whether only what is late, and the
+/// first and the last day; which order.
 pub(crate) const SEARCH: &str = r#"<details[ open]>
 <summary>Search</summary>
 <form class="sheet fields" action="/desk/find">
@@ -17,6 +17,11 @@ pub(crate) const SEARCH: &str = r#"<details[ open]>
 <p><label for="status">or one status</label><input id="status" name="status" autocapitalize="none" spellcheck="false" autocomplete="off" value="{}"></p>
 <p><label for="owner">Owner</label><input id="owner" name="owner" autocapitalize="none" spellcheck="false" autocomplete="off" value="{}"></p>
 <p><label for="requestor">Who asked</label><input id="requestor" name="requestor" autocapitalize="none" spellcheck="false" autocomplete="off" value="{}"></p>
+<p><label for="turn">Waits for</label><select id="turn" name="turn">
+<option value=""[ selected]>anybody</option>
+<option value="desk"[ selected]>the desk</option>
+<option value="requestor"[ selected]>who asked</option>
+</select></p>
 <p class="tick"><input id="late" name="late" type="checkbox" value="yes"[ checked]><label for="late">only what is late</label></p>
 <p><label for="from">Filed from</label><input id="from" name="from" type="date" value="{}"></p>
 <p><label for="to">Filed to</label><input id="to" name="to" type="date" value="{}"></p>
