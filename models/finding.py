@@ -4,8 +4,8 @@ from unicodedata import category, unidata_version
 
 from hours import DAY, day_of
 
-Search = namedtuple("Search", "words replies queue state status owner requestor late first last order")
-ANY = Search("", False, "", "", "", "", "", False, "", "", "")
+Search = namedtuple("Search", "words replies queue state status owner requestor turn late first last order")
+ANY = Search("", False, "", "", "", "", "", "", False, "", "", "")
 Found = namedtuple("Found", "request due last")
 
 
@@ -34,6 +34,7 @@ def meets(desk, caller, at, search, it):
             and has_status(search, request)
             and has_owner(search.owner, caller, request)
             and has_requestor(search.requestor, caller, request)
+            and has_turn(search.turn, request)
             and (not search.late or it.due is not None and it.due < at)
             and is_filed(search, request.created)
             and has_words(desk, caller, search, request))
@@ -50,6 +51,12 @@ def has_owner(asked, caller, request):
     if asked == "Nobody":
         return request.owner is None
     return asked == "" or request.owner == (caller if asked == "Me" else asked)
+
+
+def has_turn(asked, request):
+    """Whether it waits for the one who is asked for; what is closed waits for nobody."""
+    waits_for = "desk" if request.is_desks_turn else "requestor"
+    return asked == "" or not request.is_inactive() and asked == waits_for
 
 
 def has_requestor(asked, caller, request):

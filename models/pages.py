@@ -61,9 +61,15 @@ def late_text(due, at):
 
 def row(it, caller, at):
     one = it.request
-    return [one.number, one.subject, sorted(one.roles["requestor"]), one.queue.name, one.status,
+    return [one.number, one.subject, sorted(one.roles["requestor"]), one.queue.name, one.status, waits_for(one),
             owner_text(one.owner), time_text(it.due), late_text(it.due, at), moment_text(it.last),
             whose(one.owner, caller)]
+
+
+def waits_for(one):
+    if one.is_inactive():
+        return DASH
+    return "the desk" if one.is_desks_turn else "who asked"
 
 
 def whose(owner, caller):

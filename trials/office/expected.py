@@ -144,6 +144,6 @@ def search_of(fields):
     """The search for which the fields of an address ask."""
     plain = {"replies": "yes" == fields.get("replies"), "late": "yes" == fields.get("late"),
              "first": fields.get("from", ""), "last": fields.get("to", "")}
-    rest = {name: fields[name] for name in ("words", "queue", "state", "status", "owner", "requestor", "order")
+    rest = {name: fields[name] for name in ("words", "queue", "state", "status", "owner", "requestor", "turn", "order")
             if name in fields}
     return ANY._replace(**plain, **rest)

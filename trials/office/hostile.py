@@ -18,11 +18,11 @@ FIELDS = {
     "link": {"number": 0, "kind": 1, "other": 2}, "unlink": {"number": 0, "kind": 1, "other": 2},
     "level": {"number": 0, "level": 1}, "ls": {"queue": 0},
     **{name: {"number": 0} for name in ("take", "steal", "untake", "show", "history")}}
-SEARCH = ["words", "replies", "queue", "state", "status", "owner", "requestor", "late", "from", "to", "order"]
+SEARCH = ["words", "replies", "queue", "state", "status", "owner", "requestor", "turn", "late", "from", "to", "order"]
 EACH = [(name, field) for name, fields in FIELDS.items() for field in fields] + [("find", it) for it in SEARCH]
 # what these fields take is spelled by the desk itself, and any other word is no command
 SPELLED = {"number", "role", "kind", "other"}
-CHOICES = {"state": ["open", "closed"], "replies": ["yes"], "late": ["yes"],
+CHOICES = {"state": ["open", "closed"], "replies": ["yes"], "late": ["yes"], "turn": ["desk", "requestor"],
            "order": ["newest", "oldest", "due", "due-last", "active", "quiet"]}
 
 

@@ -298,6 +298,7 @@ class Plan:
                 "queue": choose.choice(list(QUEUES)), "state": choose.choice(["open", "closed"]),
                 "owner": choose.choice(["Me", "Nobody", self.anyone()]),
                 "requestor": choose.choice(["Me", self.anyone()]), "late": "yes", "from": day, "to": day,
+                "turn": choose.choice(["desk", "requestor"]),
                 "order": choose.choice(["newest", "oldest", "due", "due-last", "active", "quiet"])}
         for name in choose.sample(sorted(lots), choose.randint(0, 4)):
             fields[name] = lots[name]

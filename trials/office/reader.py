@@ -123,9 +123,9 @@ def late_by(cell):
 
 
 def row_of(row):
-    title, (number, queue, status, owner, due, last) = row.one("th"), list(row.all("td"))
+    title, (number, queue, status, waits, owner, due, last) = row.one("th"), list(row.all("td"))
     return [int(number.text()), title.one("a").raw(), [it.raw() for it in title.all("small")], queue.text(),
-            status.text(), owner.text(), moment(due), late_by(due), moment(last), whose(row)]
+            status.text(), waits.text(), owner.text(), moment(due), late_by(due), moment(last), whose(row)]
 
 
 def home(top):

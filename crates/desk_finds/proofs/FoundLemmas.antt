@@ -125,7 +125,7 @@ module _ (s : Settings) (at : ℕ) (caller : List ℕ) (search : Search) (desk :
       let requested = is_requested search.requestor theirs row.id in
       let rest = has_status search.status class row.status
       && (has_owner search.owner row.owner
-      && (has_turn search.turn row.turn
+      && (has_turn search.turn class row.turn
       && (is_due at search.late (due row)
       && is_filed search.filed_from search.filed_to row.created))) in
       let whole = and_parts (row_meets at search class (dated_by due row))
@@ -160,7 +160,7 @@ module _ (s : Settings) (at : ℕ) (caller : List ℕ) (search : Search) (desk :
       && (has_requestor search.requestor r.requestors && shows r)) dues
       ∙ asked_between (is_in search.queue r.row.queue) (has_status search.status class r.row.status)
       (has_owner search.owner r.row.owner)
-      (has_turn search.turn r.row.turn && (is_due at search.late (due_on s desk r)
+      (has_turn search.turn class r.row.turn && (is_due at search.late (due_on s desk r)
       && is_filed search.filed_from search.filed_to r.row.created))
       (has_requestor search.requestor r.requestors) (shows r)
 
@@ -344,12 +344,12 @@ module _ (s : Settings) (at : ℕ) (caller : List ℕ) (desk : Desk) (is : IsDes
         let live : is_live_class found.class ≡ true =
         open_alone (is_in search.queue found.queue) (is_live_class found.class)
         (has_owner search.owner found.owner) (has_requestor search.requestor found.requestors)
-        (has_turn search.turn found.turn)
+        (has_turn search.turn found.class found.turn)
         (is_due at search.late found.due && is_filed search.filed_from search.filed_to found.filed)
         (subst (λ (asked : StatusAsked). (is_in search.queue found.queue
         && (has_status asked found.class found.status
         && (has_owner search.owner found.owner && (has_requestor search.requestor found.requestors
-        && (has_turn search.turn found.turn && (is_due at search.late found.due
+        && (has_turn search.turn found.class found.turn && (is_due at search.late found.due
         && is_filed search.filed_from search.filed_to found.filed)))))) ≡ true) opens met) in
         ap (λ (b : Bool). b && true) live
 

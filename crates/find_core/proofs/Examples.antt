@@ -230,13 +230,16 @@ second_of_two_requestors = refl
 no_requestor : has_requestor (Some (codes "bob")) (codes "ann" ∷ codes "cid" ∷ []) ≡ false
 no_requestor = refl
 
-waits_for_the_desk : has_turn (Some turn.Desk) turn.Desk ≡ true
+waits_for_the_desk : has_turn (Some turn.Desk) (Some Active) turn.Desk ≡ true
 waits_for_the_desk = refl
 
-waits_for_who_asked : has_turn (Some turn.Desk) turn.Requestor ≡ false
+waits_for_who_asked : has_turn (Some turn.Desk) None turn.Requestor ≡ false
 waits_for_who_asked = refl
 
-any_turn : has_turn None turn.Requestor ≡ true
+closed_waits_for_nobody : has_turn (Some turn.Desk) (Some Ended) turn.Desk ≡ false
+closed_waits_for_nobody = refl
+
+any_turn : has_turn None (Some Ended) turn.Requestor ≡ true
 any_turn = refl
 
 no_requestor_is_asked_for : has_requestor None [] ≡ true

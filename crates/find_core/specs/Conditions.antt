@@ -37,9 +37,10 @@ is_turn turn.Desk turn.Desk = true
 is_turn turn.Requestor turn.Requestor = true
 is_turn _ _ = false
 
--- it waits for the one who is asked for
-abbrev pub has_turn : Option Turn → Turn → Bool
-has_turn asked turn = option_map_or (λ t. is_turn t turn) asked true
+-- it waits for the one who is asked for; what is closed waits for nobody
+abbrev pub has_turn : Option Turn → Option Class → Turn → Bool
+has_turn asked class turn =
+    option_map_or (λ t. not (is_inactive_class class) && is_turn t turn) asked true
 
 abbrev pub has_requestor : Option (List ℕ) → List (List ℕ) → Bool
 has_requestor asked requestors = option_map_or (is_among requestors) asked true
@@ -61,7 +62,7 @@ meets at search found =
     && (has_status search.status found.class found.status
     && (has_owner search.owner found.owner
     && (has_requestor search.requestor found.requestors
-    && (has_turn search.turn found.turn
+    && (has_turn search.turn found.class found.turn
     && (is_due at search.late found.due
     && is_filed search.filed_from search.filed_to found.filed)))))
 

@@ -39,7 +39,7 @@ row_meets at search class dated =
     is_in search.queue dated.0.queue
     && (has_status search.status class dated.0.status
     && (has_owner search.owner dated.0.owner
-    && (has_turn search.turn dated.0.turn
+    && (has_turn search.turn class dated.0.turn
     && (is_due at search.late dated.1
     && is_filed search.filed_from search.filed_to dated.0.created))))
 

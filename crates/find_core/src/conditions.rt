@@ -78,7 +78,7 @@ fn meets(
     is_in(&search.queue, &row.queue)
         && has_status(&search.status, class, &row.status)
         && has_owner(&search.owner, &row.owner)
-        && has_turn(search.turn, row.turn)
+        && has_turn(search.turn, class, row.turn)
         && is_due(at, search.late, *due)
         && is_filed(search.filed_from, search.filed_to, row.created)
 }
@@ -172,12 +172,12 @@ fn has_owner(asked: &OwnerAsked, owner: &Option<Text>) -> bool
     }
 }
 
-/// Whether the turn is the one that is asked for, if one is.
-fn has_turn(asked: Option<Turn>, turn: Turn) -> bool
-    ensures { result ≡ conditions.has_turn asked turn }
+/// Whether it waits for the one who is asked for, if one is; what is closed waits for nobody.
+fn has_turn(asked: Option<Turn>, class: Option<Class>, turn: Turn) -> bool
+    ensures { result ≡ conditions.has_turn asked class turn }
 {
     match asked {
-        Some(asked) => is_turn(asked, turn),
+        Some(asked) => !is_inactive(class) && is_turn(asked, turn),
         None => true,
     }
 }

@@ -22,7 +22,7 @@ pub struct Search {
     pub owner: OwnerAsked,
     /// One of the requestors, or anybody.
     pub requestor: Option<Text>,
-    /// Only what waits for the desk, or for who asked.
+    /// Only what waits for the desk, or for who asked; what is closed waits for nobody.
     pub turn: Option<Turn>,
     /// Only what was due before the moment of the search.
     pub late: bool,
@@ -82,7 +82,7 @@ pub struct Found {
     pub class: Option<Class>,
     /// Nobody owns it where this is absent.
     pub owner: Option<Text>,
-    /// Whom it waits for.
+    /// Whom it waits for, while it is open.
     pub turn: Turn,
     /// When it is due, if a level says so.
     pub due: Option<Minute>,
