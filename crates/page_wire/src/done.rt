@@ -124,12 +124,7 @@ fn put_number(
     }
 }
 
-fn filed_reply(
-    alloc: Global,
-    caller: &str,
-    moment: Minute,
-    id: u32,
-) -> Result<Vec<u8>, AllocError>
+fn filed_reply(alloc: Global, caller: &str, moment: Minute, id: u32) -> Result<Vec<u8>, AllocError>
     ensures { IfOk result (λ out. out.items ≡ form.filed_reply caller.now moment id) }
 {
     let page = filed_page(alloc, caller, moment, id)?;

@@ -123,7 +123,9 @@ fn submit_once<S: Backend>(
     ensures left { LeavesDesk S.Store desk.old desk.new }
 {
     match told_request(sent) {
-        Some(id) => submit_unless_told(alloc, caller, command, sent, second, id, moment, desk, room),
+        Some(id) => submit_unless_told(
+            alloc, caller, command, sent, second, id, moment, desk, room,
+        ),
         None => submit_unless_filed(alloc, caller, command, sent, second, moment, desk, room),
     }
 }
@@ -152,7 +154,9 @@ fn submit_unless_filed<S: Backend>(
     ensures left { LeavesDesk S.Store desk.old desk.new }
 {
     match first_text(alloc, sent) {
-        Ok(text) => submit_new(alloc, caller, command, sent, second, text, moment, desk, room),
+        Ok(text) => submit_new(
+            alloc, caller, command, sent, second, text, moment, desk, room,
+        ),
         Err(_) => Err(AllocError),
     }
 }
@@ -181,7 +185,9 @@ fn submit_new<S: Backend>(
     ensures left { LeavesDesk S.Store desk.old desk.new }
 {
     match desk.filed_lately(alloc, moment.get(), caller, command, &text) {
-        Ok(None) => submit(alloc, caller, command, sent, second, &text, moment, desk, room),
+        Ok(None) => submit(
+            alloc, caller, command, sent, second, &text, moment, desk, room,
+        ),
         Ok(Some(id)) => {
             put_done(sent, &Answer::Created(id), room);
             Ok(())
@@ -248,7 +254,9 @@ fn submit_both<S: Backend>(
     ensures left { LeavesDesk S.Store desk.old desk.new }
 {
     match first_text(alloc, sent) {
-        Ok(text) => submit(alloc, caller, command, sent, second, &text, moment, desk, room),
+        Ok(text) => submit(
+            alloc, caller, command, sent, second, &text, moment, desk, room,
+        ),
         Err(_) => Err(AllocError),
     }
 }

@@ -2,7 +2,7 @@
 -- stay and no due moment.
 use Rattle.std.proofs.Common.{◌≡◌, ◌≢◌, ◌∙◌, ℕ, ◌+◌, ◌==◌, true, false, List, [], ◌∷◌, map, Option}
 use Rattle.std.proofs.Common.{Some, None, Ok, Err, IfErr, IfOk, OnErr, refl, ap, ap₂, sym, subst, arith}
-use Rattle.std.proofs.Common.{inl, inr, option_and_then, unwrap_or}
+use Rattle.std.proofs.Common.{inl, inr, if◌then◌else◌, option_and_then, unwrap_or}
 use Rattle.std.specs.Option.{option_map, option_map_or}
 use Rattle.std.proofs.lemmas.Bool.{and_from, and_parts}
 use Rattle.sqlite.specs.State.{State, HasCleanDisk}
@@ -29,9 +29,13 @@ use Rattle.desk_core.specs.Carried.{KeepsStays}
 use Rattle.desk_core.specs.Decision.{change_of}
 use Rattle.desk_core.proofs.Begun.{none_more}
 use Rattle.desk_core.proofs.Changed.{found_mapped, left_at, noted_on}
-use Rattle.desk_core.proofs.DeskLaw.{desk_applied}
 use Rattle.desk_core.proofs.DeskLaw.ByKind.{change_fits}
-use Rattle.desk_core.proofs.DeskLaw.Fitting.{Appends, Fits}
+use Rattle.desk_core.proofs.DeskLaw.Entries.{entries_follow}
+use Rattle.desk_core.proofs.DeskLaw.Fitting.{Appends}
+use Rattle.desk_core.proofs.DeskLaw.Links.{ends_there, links_rise}
+use Rattle.desk_core.proofs.DeskLaw.Numbers.{stay_numbered}
+use Rattle.desk_core.proofs.DeskLaw.Persons.{persons_after}
+use Rattle.desk_core.proofs.DeskLaw.Queues.{each_in_queue, queues_named, queues_rise}
 use Rattle.store_tables.specs.Calls.{LeavesTables}
 use Rattle.store_tables.specs.Contents.{Contents, contents_of, request_rows}
 use Rattle.store_tables.specs.Contents.Request.{Dated, dated_by}
@@ -45,7 +49,7 @@ use Rattle.service_core.specs.Decided.{Writes}
 use Rattle.service_core.specs.Filing.{FilesOn, FilesSeeing, FilesUnless, FilesWith, refusal_of_text}
 use Rattle.service_core.specs.Filing.{text_entry, text_taken, texted, with_text}
 use Rattle.service_core.specs.Leaves.{StepsSafely}
-use Rattle.service_core.specs.TableSteps.{IsStep, ask_by}
+use Rattle.service_core.specs.TableSteps.{IsStep, OverTables, ask_by}
 use Rattle.service_core.proofs.Laws.{lawful}
 use Rattle.service_core.proofs.LeftLemmas.{keeps_after}
 use Rattle.service_core.proofs.Stepping.{done, refused_step, spared_after, unavailable_or}
@@ -111,46 +115,50 @@ module _ (s : Settings) (at : ℕ) (caller queue subject : List ℕ) (status : O
     abbrev command : Command
     command = Create queue subject status requestors
 
-    abbrev change : Change
-    change = change_of (call s at caller) (facts_of command desk) command
+    abbrev plain : Change
+    plain = change_of (call s at caller) (facts_of command desk) command
 
     abbrev more : Change
-    more = texted caller text change
+    more = texted caller text plain
 
     abbrev entry : Entry
     entry = text_entry ((facts_of command desk).request_count + 1) at caller text
 
     abbrev filed : Desk
-    filed = applied change desk
+    filed = applied plain desk
 
     applied_more : applied more desk ≡ entry_put filed entry
     applied_more = refl
 
-    fits_more : Fits desk more
-    fits_more =
-        let fits = change_fits s at caller command desk is free in
-        let follow = fits.appends.follow in
+    appends_more : Appends desk more
+    appends_more =
+        let appends = (change_fits s at caller command desk is free).appends in
+        let follow = appends.follow in
         record {
-          opens = fits.opens;
-          named = fits.named;
-          files = fits.files;
-          stays = fits.stays;
-          links = fits.links;
-          appends = record {
-            id = fits.appends.id;
-            count = fits.appends.count;
-            counted = fits.appends.counted;
-            follow = (follow.0, (follow.1.0, (follow.0, (omega (arith, follow.1.0), tt))));
-          };
+          id = appends.id;
+          count = appends.count;
+          counted = appends.counted;
+          follow = (follow.0, follow.1, (follow.0, omega (arith, follow.1), tt));
         }
 
     pub texted_desk : IsDesk (applied more desk)
-    texted_desk = desk_applied more desk fits_more is
+    texted_desk =
+        let fits = change_fits s at caller command desk is free in
+        record {
+          queues = queues_rise more desk fits.opens is.queues;
+          named = queues_named more desk fits.named is.named;
+          requests = stay_numbered more desk fits.files is.requests;
+          persons = persons_after more desk is.persons;
+          entries = entries_follow more desk appends_more is.entries;
+          filed_in = each_in_queue more desk fits.files fits.stays is.filed_in;
+          links = links_rise more desk fits.links is.links;
+          ends = ends_there more desk fits.links is.ends;
+        }
 
     pub texted_writable : IsWritable desk more
     texted_writable =
         let fits = change_writable s at caller command desk is free in
-        let there = and_parts (is_there (with_filed change desk) entry.id) true fits.notes in
+        let there = and_parts (is_there (with_filed plain desk) entry.id) true fits.notes in
         record {
           files = fits.files;
           sets = fits.sets;
@@ -175,7 +183,7 @@ module _ (s : Settings) (at : ℕ) (caller queue subject : List ℕ) (status : O
         (λ row. sym (due_noted entry refl filed s row)) (request_rows filed)
         ∙ ap (map (dated_by (due_of_row s after))) (sym rows))
 
-    texted_step : (answer : Answer) → answer ≡ answer_of_change change
+    texted_step : (answer : Answer) → answer ≡ answer_of_change plain
         → refusal_of_text s text ≡ None
         → FilesWith s (ask_by at caller command) (Some text) desk (Ok answer) (applied more desk)
     texted_step answer told none =
@@ -185,7 +193,7 @@ module _ (s : Settings) (at : ℕ) (caller queue subject : List ℕ) (status : O
         (sym none)
         (filed, step, ap (λ (a : Answer). with_text at caller text (Ok a) filed) (sym told))
 
-    pub texted_on : (answer : Answer) (old new : State) → answer ≡ answer_of_change change
+    pub texted_on : (answer : Answer) (old new : State) → answer ≡ answer_of_change plain
         → refusal_of_text s text ≡ None → Writes more old new → RepresentsWithDue s desk old
         → (after : Desk)
         × (FilesWith s (ask_by at caller command) (Some text) desk (Ok answer) after × IsDesk after)
@@ -206,9 +214,12 @@ pub refused_filing : (s : Settings) (ask : Ask) (text : List ℕ) (desk : Desk) 
 refused_filing s ask text desk refusal is refuses =
     elim (refusal_of_text s text) as (λ o. FilesUnless o s ask text desk (Err refusal) desk) [
       | None ↦ (desk, refused_step s ask desk refusal is refuses, refl)
-      | Some bad ↦ (refl, λ other.
-          ap (λ (o : Option Refusal). Err (unwrap_or o bad))
-          (sym (refuses (λ same. other (ap Err same)))))
+      | Some bad ↦ (
+        refl,
+        λ other.
+            ap (λ (o : Option Refusal). Err (unwrap_or o bad))
+            (sym (refuses (λ same. other (ap Err same)))),
+      )
     ]
 
 -- a text that is refused
@@ -321,3 +332,34 @@ seen_filing facts s ask text old mid new outcome takes seen kept made = record {
   refused = spared_after outcome old mid new kept made.refused;
   keeps = keeps_after kept made.keeps;
 }
+
+-- the change that was written is that of the filing with its text
+pub texted_written : (s : Settings) (caller text : List ℕ) (change made : Change) (r : Outcome)
+    (old new : State) → made ≡ texted caller text change → None ≡ refusal_of_text s text
+    → IfOk r (λ answer. (answer ≡ answer_of_change made) × Writes made old new)
+    → IfOk r (λ answer. (answer ≡ answer_of_change change) × (refusal_of_text s text ≡ None)
+    × Writes (texted caller text change) old new)
+texted_written s caller text change made (Ok answer) old new is none written = (
+  written.0 ∙ ap answer_of_change is,
+  sym none,
+  subst (λ (c : Change). Writes c old new) is written.1,
+)
+texted_written s caller text change made (Err refusal) old new is none written = tt
+
+-- what a command does with the text that it takes
+pub filed_by_taken : (s : Settings) (ask : Ask) (text taken : Option (List ℕ)) (outcome : Outcome)
+    (old new : State) → taken ≡ text_taken ask.command text
+    → OverTables s (λ desk after. FilesWith s ask taken desk outcome after) old new
+    → FilesOn s ask text outcome old new
+filed_by_taken s ask text taken outcome old new is leads =
+    subst (λ (t : Option (List ℕ)). OverTables s (λ desk after. FilesWith s ask t desk outcome after)
+    old new) is leads
+
+-- and of itself, where it takes it
+pub filed_by_itself : (s : Settings) (ask : Ask) (text : List ℕ) (outcome : Outcome)
+    (old new : State) → text_taken ask.command (Some text) ≡ Some text
+    → FilesOn s ask (Some text) outcome old new
+    → OverTables s (λ desk after. FilesWith s ask (Some text) desk outcome after) old new
+filed_by_itself s ask text outcome old new takes leads =
+    subst (λ (t : Option (List ℕ)). OverTables s (λ desk after. FilesWith s ask t desk outcome after)
+    old new) takes leads

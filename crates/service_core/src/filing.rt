@@ -191,12 +191,7 @@ fn refusal_of_text(settings: &Settings, text: &Text) -> Option<Refusal>
 }
 
 /// The change with the entry of the text of what it files.
-fn with_text(
-    alloc: Global,
-    caller: &str,
-    change: Change,
-    text: &Text,
-) -> Result<Change, AllocError>
+fn with_text(alloc: Global, caller: &str, change: Change, text: &Text) -> Result<Change, AllocError>
     ensures { IfOk result (λ made. made ≡ filing.texted caller.now text.now change) }
 {
     match entry_for(alloc, caller, &change.filed, text) {
