@@ -153,7 +153,7 @@ WRITES = [("reply", "ReplyToTicket"), ("comment", "CommentOnTicket")]
 
 
 def crosses(desk, caller, shown):
-    """Whether a person can be taken out, and a link away, by a press: by the right to change the request."""
+    """Whether a person can be taken out, and a link away, by a cross: by the right to change the request."""
     one = shown.request
     may = desk.has_on(caller, "ModifyTicket", one)
     return [may and any(one.roles.values()), may and bool(shown.linked or shown.linking)]

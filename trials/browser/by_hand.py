@@ -133,15 +133,29 @@ def changing():
         holds(f"suggested are {suggested}", {"ann", "bob", "cid", "eva"} <= set(suggested))
 
 
-def one_press():
-    """Beside a name and a number stands a press that takes it away."""
-    with serving("press") as visitor:
+def crosses():
+    """The cross beside a name and a number asks first, by the keys too: it shows a button, and hides
+    it again. That takes away what it names."""
+    with serving("crosses") as visitor:
         browser = signed_in(visitor, "bob", AT)
-        browser.follow(".facts [action$='/unwatch'] button, .facts [formaction$='/unwatch']")
-        holds(f"nobody was taken out: {last_of(visitor)}", last_of(visitor).startswith("unwatch "))
-        expect("it leads back", browser.path(), AT)
-        browser.follow(".facts [action$='/unlink'] button, .facts [formaction$='/unlink']")
-        holds(f"no link was taken away: {last_of(visitor)}", last_of(visitor).startswith("unlink "))
+        for act, words in (("unwatch", "Take {} out of {}"), ("unlink", "Unlink it: {} {}")):
+            sure, before = f".facts [action$='/{act}'] button", last_of(visitor)
+            shown = SHOWS.format(sure)
+            cross = f".facts details:has([action$='/{act}']) summary"
+            small = browser.of_element(cross, "(at => Math.min(at.width, at.height))"
+                                              "(it.getBoundingClientRect())")
+            holds(f"{act}: the cross has {small} pixels", small >= 24)
+            named = browser.of_element(sure, "[...it.form.elements].map(it => it.value).slice(1, 3)")
+            expect(f"{act}: the button's words", browser.of_element(sure, "it.textContent"),
+                   words.format(*(named if act == "unlink" else named[::-1])))
+            for wanted in (1, 0):
+                browser.of_element(cross, "it.focus()")
+                browser.key("Enter")
+                expect(f"{act}: buttons after the cross", browser.run(shown), wanted)
+            expect(f"{act}: what a cross does", (last_of(visitor), browser.path()), (before, AT))
+            browser.follow(sure)
+            holds(f"{act} isn't done: {last_of(visitor)}", last_of(visitor).startswith(f"{act} "))
+            expect(f"{act}: it leads back", browser.path(), AT)
 
 
 def folds():
@@ -523,7 +537,7 @@ def leaving():
 
 
 PARTS = {"signing": signing_in, "writing": writing, "owning": owning, "changing": changing,
-         "pressing": one_press, "folds": folds, "filing": filing, "refusing": refusing,
+         "crosses": crosses, "folds": folds, "filing": filing, "refusing": refusing,
          "at-once": at_once, "choices": choices, "searching": searching,
          "counting": counting, "moments": local_time,
          "keys": keys, "others": other_sites, "meanwhile": meanwhile, "leaving": leaving}

@@ -203,7 +203,8 @@ def names():
             for node in browser.ask("Accessibility.getFullAXTree")["nodes"]:
                 role = node.get("role", {}).get("value")
                 if not node.get("ignored") and role in (
-                        "button", "link", "textbox", "combobox", "radio", "checkbox", "table"):
+                        "button", "link", "textbox", "combobox", "radio", "checkbox", "table",
+                        "DisclosureTriangle"):
                     count += 1
                     holds(f"{place}: a {role} without a name", node.get("name", {}).get("value"))
         tally.floor("names: things with a name", count, 150)

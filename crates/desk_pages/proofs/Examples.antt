@@ -40,7 +40,7 @@ use Rattle.desk_pages.specs.Facts.{facts}
 use Rattle.desk_pages.specs.Frame.{bare_bottom, bare_top}
 use Rattle.desk_pages.specs.History.{history, last_number, newer_entries, telling}
 use Rattle.desk_pages.specs.Home.{lists, section}
-use Rattle.desk_pages.specs.Lists.{link_row, members, others}
+use Rattle.desk_pages.specs.Lists.{link_row, members, others, person_row}
 use Rattle.desk_pages.specs.Moves.{closing_after, closings, folded, may_go, offer}
 use Rattle.desk_pages.specs.Owner.{owner_form}
 use Rattle.desk_pages.specs.Overtaken.{deed_of, overtaken}
@@ -407,7 +407,7 @@ table_of_two :
 unfolding asking cells digits filled_from row row_end row_top table table_end time_or_dash
 table_of_two = refl
 
--- ---- links
+-- ---- links and persons
 
 abbrev no_links : Links
 no_links =
@@ -420,19 +420,33 @@ no_links =
       referred_to_by = [];
     }
 
--- the button takes away the link of the kind that stands above it
+-- the cross opens a button that takes away the link of the kind that stands above it
 member_of_one_request :
     page_bytes (members true 3 (codes "bob") (record no_links { member_of = 12 ∷ [] }))
-    ≡ codes "<div><dt>Member of</dt><dd><a href=\"/desk/requests/12\">12</a> <form method=\"post\" action=\"/desk/requests/3/unlink\"><input type=\"hidden\" name=\"me\" value=\"bob\"><input type=\"hidden\" name=\"kind\" value=\"MemberOf\"><input type=\"hidden\" name=\"other\" value=\"12\"><button><span aria-hidden=\"true\">"
-    ++ (195 ∷ (151 ∷ codes "</span><span class=\"off\">Unlink 12</span></button></form> </dd></div>\n"))
+    ≡ codes "<div><dt>Member of</dt><dd><a href=\"/desk/requests/12\">12</a> <details><summary><span aria-hidden=\"true\">"
+    ++ (195 ∷ (151 ∷ codes "</span><span class=\"off\">Unlink 12</span></summary><form method=\"post\" action=\"/desk/requests/3/unlink\"><input type=\"hidden\" name=\"me\" value=\"bob\"><input type=\"hidden\" name=\"kind\" value=\"MemberOf\"><input type=\"hidden\" name=\"other\" value=\"12\"><button>Unlink it: MemberOf 12</button></form></details> </dd></div>\n"))
 unfolding digits filled_from link_row others
 member_of_one_request = refl
 
-two_members_without_buttons :
+two_members_without_crosses :
     page_bytes (members false 3 (codes "bob") (record no_links { has_member = 4 ∷ 12 ∷ [] }))
     ≡ codes "<div><dt>Has members</dt><dd><a href=\"/desk/requests/4\">4</a> <a href=\"/desk/requests/12\">12</a> </dd></div>\n"
 unfolding digits filled_from link_row others
-two_members_without_buttons = refl
+two_members_without_crosses = refl
+
+-- the button says whom it takes out of what, and does that
+person_with_a_cross :
+    page_bytes (person_row true 3 (codes "bob") (codes "cc") (codes "eve"))
+    ≡ codes "<span>eve</span> <details><summary><span aria-hidden=\"true\">"
+    ++ (195 ∷ (151 ∷ codes "</span><span class=\"off\">Take out eve</span></summary><form method=\"post\" action=\"/desk/requests/3/unwatch\"><input type=\"hidden\" name=\"me\" value=\"bob\"><input type=\"hidden\" name=\"role\" value=\"cc\"><input type=\"hidden\" name=\"person\" value=\"eve\"><button>Take eve out of cc</button></form></details> "))
+unfolding digits filled_from person_row
+person_with_a_cross = refl
+
+person_without_a_cross :
+    page_bytes (person_row false 3 (codes "bob") (codes "requestor") (codes "eve"))
+    ≡ codes "<span>eve</span> "
+unfolding digits filled_from person_row
+person_without_a_cross = refl
 
 -- ---- what happened
 

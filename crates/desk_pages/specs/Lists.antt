@@ -1,5 +1,5 @@
--- The persons of a request and the requests that it is linked with, each with a button that takes it
--- out or away.
+-- The persons of a request and the requests that it is linked with, each with a cross. That opens
+-- a button, which says what it takes out or away, and does it.
 use Rattle.std.specs.Prelude.{ℕ, Bool, true, List, [], ◌∷◌, ◌++◌, codes, decimal, length}
 use Rattle.std.specs.List.{flat_map}
 use Rattle.desk_model.specs.declared.answer.Links.{Links}
@@ -10,10 +10,11 @@ use Rattle.desk_pages.specs.Pieces.{is_filled}
 use Rattle.desk_pages.specs.declared.markup.lists.TheConstants.{LINK_ROW, LIST_END, LIST_TOP}
 use Rattle.desk_pages.specs.declared.markup.lists.TheConstants.{PERSON_ROW}
 
--- a person in a role on a request, with a button for a caller or without
+-- a person in a role on a request, with a cross for a caller or without
 unfoldable pub person_row : Bool → ℕ → List ℕ → List ℕ → List ℕ → List Part
 person_row buttons id caller role name =
-    filled PERSON_ROW.now (name ∷ decimal id ∷ caller ∷ role ∷ name ∷ name ∷ []) (buttons ∷ [])
+    filled PERSON_ROW.now
+    (name ∷ name ∷ decimal id ∷ caller ∷ role ∷ name ∷ name ∷ role ∷ []) (buttons ∷ [])
 
 -- persons in a role, under a heading or without
 unfoldable pub persons : Bool → Bool → ℕ → List ℕ → List ℕ → List ℕ → List (List ℕ) → List Part
@@ -25,7 +26,8 @@ persons headed buttons id caller role heading names =
 unfoldable pub link_row : Bool → ℕ → List ℕ → List ℕ → ℕ → List Part
 link_row buttons id caller link n =
     filled LINK_ROW.now
-    (decimal n ∷ decimal n ∷ decimal id ∷ caller ∷ link ∷ decimal n ∷ decimal n ∷ []) (buttons ∷ [])
+    (decimal n ∷ decimal n ∷ decimal n ∷ decimal id ∷ caller ∷ link ∷ decimal n ∷ link
+    ∷ decimal n ∷ []) (buttons ∷ [])
 
 -- requests in a kind of links, under a heading if there are any
 unfoldable pub others : Bool → ℕ → List ℕ → List ℕ → List ℕ → List ℕ → List Part

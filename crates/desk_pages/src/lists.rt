@@ -1,5 +1,5 @@
-//! The persons of a request and the requests that it is linked with, each with a button that takes
-//! it out or away.
+//! The persons of a request and the requests that it is linked with, each with a cross. That opens
+//! a button, which says what it takes out or away, and does it.
 ghost use Rattle.std.specs.Prelude.{◌≡◌, ◌++◌, OnOk};
 ghost use Rattle.std.specs.List.{flat_map};
 ghost use Rattle.page_core.specs.Page.{page_bytes};
@@ -94,11 +94,13 @@ fn put_person_row<'t>(
 {
     let values = [
         Value::Text(name),
+        Value::Text(name),
         Value::Number(id),
         Value::Text(caller),
         Value::Text(role),
         Value::Text(name),
         Value::Text(name),
+        Value::Text(role),
     ];
     fill(out, PERSON_ROW, &values, &[buttons])
 }
@@ -237,10 +239,12 @@ fn put_link_row<'t>(
     let values = [
         Value::Number(other),
         Value::Number(other),
+        Value::Number(other),
         Value::Number(id),
         Value::Text(caller),
         Value::Text(link),
         Value::Number(other),
+        Value::Text(link),
         Value::Number(other),
     ];
     fill(out, LINK_ROW, &values, &[buttons])

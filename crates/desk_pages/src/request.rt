@@ -21,10 +21,11 @@ use settings_core::Settings;
 use std::alloc::{AllocError, Global};
 
 /// The page of a request, for a caller at a moment: what is known of it, what happened, the forms
-/// for a reply and a comment, and those that change it, as far as the caller may. Whoever may change it
-/// can take each person out, and each link away, by one press. The class of its status is that of the lifecycle of
-/// its queue; where the settings have no such lifecycle, it has none. Local time by the calendar of
-/// its level stands beside when it is due and when it was filed.
+/// for a reply and a comment, and those that change it, as far as the caller may. For whoever may
+/// change it each person and each link has a cross, which opens a button that takes it out or away.
+/// The class of its status is that of the lifecycle of its queue; where the settings have no such
+/// lifecycle, it has none. Local time by the calendar of its level stands beside when it is due and
+/// when it was filed.
 pub fn request_page(
     alloc: Global,
     caller: &str,

@@ -218,10 +218,12 @@ details + .paging { margin-top: .875rem }
 .facts dt { color: var(--soft); font-size: .8125rem; line-height: 1.3 }
 .facts dd { margin: 0; font-weight: 550 }
 .facts dd > * { margin-right: .25rem }
-.facts form { display: inline }
-.facts form button { min-height: 1.5rem; min-width: 1.5rem; padding: 0 .375rem; border-color: transparent; background: none; color: var(--soft); font-size: .8125rem; font-weight: 400; vertical-align: baseline }
-.facts form button:hover { border-color: var(--link); background: var(--wash); color: var(--link) }
-.facts form button:focus-visible { border-color: var(--focus); outline-offset: 0; color: var(--ink) }
+.facts details { display: inline-block; max-width: 100%; margin: 0; vertical-align: top }
+.facts summary { display: inline-flex; align-items: center; justify-content: center; min-height: 1.5rem; min-width: 1.5rem; padding: 0 .375rem; border: 1px solid transparent; border-radius: .375rem; color: var(--soft); font-size: .8125rem; font-weight: 400; list-style: none }
+.facts summary::-webkit-details-marker { display: none }
+.facts :is(summary:hover, [open] > summary) { border-color: var(--link); background: var(--wash); color: var(--link) }
+.facts summary:focus-visible { border-color: var(--focus); outline-offset: 0; color: var(--ink) }
+.facts form button { min-height: 1.75rem; margin-top: .25rem; font-size: .8125rem; overflow-wrap: anywhere }
 small { color: var(--soft); font-size: .8125rem; font-weight: 400; white-space: nowrap }
 
 .history { margin: 0 0 1.5rem; padding: 0; list-style: none }
@@ -322,7 +324,7 @@ meter + meter::-moz-meter-bar { background: repeating-linear-gradient(135deg, va
 
 @media (pointer: coarse) {
   input, select, button, .button { min-height: 2.75rem }
-  .facts form button { min-height: 2.25rem; min-width: 2.25rem }
+  .facts :is(summary, form button) { min-height: 2.25rem; min-width: 2.25rem }
   .more summary { padding-block: .625rem }
   input, select, textarea { font-size: 1rem }
   nav a { padding-block: .5rem }
