@@ -1,5 +1,5 @@
 //! What is sought, in words: above what was found, and in the title of its page.
-ghost use Rattle.std.specs.Prelude.{◌≡◌, ◌++◌, map, string_bytes, IfOk, OnOk};
+ghost use Rattle.std.specs.Prelude.{◌≡◌, ◌++◌, [], codes, map, string_bytes, IfOk, OnOk};
 ghost use Rattle.desk_pages.specs.Sought as form;
 
 use crate::frame::Place;
@@ -55,12 +55,7 @@ pub(crate) fn sought_in(typed: &FindForm) -> [SearchPart<'_>; 11]
             "asked by ",
             asker(typed.requestor.as_str()),
         ),
-        sought_by(
-            typed.turn.as_str(),
-            "turn",
-            turn_front(typed.turn.as_str()),
-            "",
-        ),
+        sought_turn(typed.turn.as_str()),
         sought_by(typed.late.as_str(), "late", "late", ""),
         sought_by(
             typed.from.as_str(),
@@ -131,6 +126,20 @@ fn asker(requestor: &str) -> &str
 }
 
 /// For whom it waits.
+fn sought_turn(turn: &str) -> SearchPart<'_>
+    ensures { form.plain result
+        ≡ form.told turn.entry.now (codes "turn") (form.turn_front turn.entry.now) [] }
+{
+    SearchPart {
+        asked: !turn.is_empty(),
+        field: "turn",
+        beside: "",
+        front: turn_front(turn),
+        value: "",
+        back: "",
+    }
+}
+
 fn turn_front(turn: &str) -> &'static str
     ensures { result.now ≡ form.turn_front turn.now }
 {

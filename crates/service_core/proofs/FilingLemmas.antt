@@ -271,7 +271,7 @@ written_filing facts change s ask text (Ok answer) old new takes accepts made wr
     seen stand clean =
     filed_on s ask.at ask.caller ask.command text desk change answer old new is (accepts desk seen).0
     takes (made ∙ ap (λ (f : Facts). change_of (call s ask.at ask.caller) f ask.command) seen)
-    written.0 written.1.0 written.1.1 stand
+    written.0 written.1 written.2 stand
 written_filing facts change s ask text (Err refusal) old new takes accepts made written fault kept desk
     is seen stand clean = (
       desk,
@@ -363,3 +363,9 @@ pub filed_by_itself : (s : Settings) (ask : Ask) (text : List ℕ) (outcome : Ou
 filed_by_itself s ask text outcome old new takes leads =
     subst (λ (t : Option (List ℕ)). OverTables s (λ desk after. FilesWith s ask t desk outcome after)
     old new) takes leads
+
+-- a text that a command takes is one that it takes
+pub taken_again : (command : Command) (text : Option (List ℕ)) (taken : List ℕ)
+    → Some taken ≡ text_taken command text → text_taken command (Some taken) ≡ Some taken
+taken_again (Create queue subject status requestors) text taken is = refl
+taken_again other text taken is = cc
