@@ -317,7 +317,7 @@ pub done_filing : (s : Settings) (at : ℕ) (caller : List ℕ) (sent : Submitte
     → DoneStepsOn s at caller sent answer (Some id) bytes old new
 done_filing s at caller sent answer id result bytes old new tells told =
     λ desk is stand clean. let found = tells desk is stand clean in
-    (desk, ((result, found.0, (told, refl)), is), found.1)
+    (desk, ((result, found.0, told, refl), is), found.1)
 
 -- this came of it
 pub second_told : (s : Settings) (at : ℕ) (caller : List ℕ) (sent : SubmittedForm) (answer : Answer)

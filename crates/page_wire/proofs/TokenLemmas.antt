@@ -277,7 +277,8 @@ module _ (s donor : Settings) where
         → DoneSteps s at caller sent answer id old bytes new
         → DoneSteps other at caller sent answer id old bytes new
     done answer None old steps = steps
-    done answer (Some id) old steps = (steps.0, dossier at caller id old steps.0 steps.1, steps.2)
+    done answer (Some id) old steps =
+        (steps.0, dossier at caller id old steps.0 steps.1, steps.2, steps.3)
 
     second : (answer : Answer) (next : Option Command) (old : Desk)
         → SecondSteps s at caller sent answer next old bytes new
