@@ -79,7 +79,10 @@ fn submit_with<S: Backend>(
 {
     match refusal_of(desk.settings(), caller, moment, &second) {
         None => submit_once(alloc, caller, command, sent, second, moment, desk, room),
-        Some(refusal) => put_refused(alloc, caller, moment, sent, refusal, room),
+        Some(refusal) => {
+            drop(second);
+            put_refused(alloc, caller, moment, sent, refusal, room)
+        }
     }
 }
 
@@ -157,7 +160,10 @@ fn submit_unless_filed<S: Backend>(
         Ok(text) => submit_new(
             alloc, caller, command, sent, second, text, moment, desk, room,
         ),
-        Err(_) => Err(AllocError),
+        Err(_) => {
+            drop(second);
+            Err(AllocError)
+        }
     }
 }
 
@@ -185,14 +191,24 @@ fn submit_new<S: Backend>(
     ensures left { LeavesDesk S.Store desk.old desk.new }
 {
     match desk.filed_lately(alloc, moment.get(), caller, command, &text) {
-        Ok(None) => submit(
-            alloc, caller, command, sent, second, &text, moment, desk, room,
-        ),
+        Ok(None) => {
+            let done = submit(
+                alloc, caller, command, sent, second, &text, moment, desk, room,
+            );
+            drop(text);
+            done
+        }
         Ok(Some(id)) => {
+            drop(second);
+            drop(text);
             put_done(sent, &Answer::Created(id), room);
             Ok(())
         }
-        Err(refusal) => put_refused(alloc, caller, moment, sent, refusal, room),
+        Err(refusal) => {
+            drop(second);
+            drop(text);
+            put_refused(alloc, caller, moment, sent, refusal, room)
+        }
     }
 }
 
@@ -223,11 +239,15 @@ fn submit_unless_told<S: Backend>(
     drop(dossier);
     match told {
         Ok(Some(bytes)) => {
+            drop(second);
             *room = bytes;
             Ok(())
         }
         Ok(None) => submit_both(alloc, caller, command, sent, second, moment, desk, room),
-        Err(_) => Err(AllocError),
+        Err(_) => {
+            drop(second);
+            Err(AllocError)
+        }
     }
 }
 
@@ -254,10 +274,17 @@ fn submit_both<S: Backend>(
     ensures left { LeavesDesk S.Store desk.old desk.new }
 {
     match first_text(alloc, sent) {
-        Ok(text) => submit(
-            alloc, caller, command, sent, second, &text, moment, desk, room,
-        ),
-        Err(_) => Err(AllocError),
+        Ok(text) => {
+            let done = submit(
+                alloc, caller, command, sent, second, &text, moment, desk, room,
+            );
+            drop(text);
+            done
+        }
+        Err(_) => {
+            drop(second);
+            Err(AllocError)
+        }
     }
 }
 
@@ -290,7 +317,10 @@ fn submit<S: Backend>(
             drop(answer);
             Ok(())
         }
-        Err(refusal) => put_refused(alloc, caller, moment, sent, refusal, room),
+        Err(refusal) => {
+            drop(second);
+            put_refused(alloc, caller, moment, sent, refusal, room)
+        }
     }
 }
 

@@ -20,18 +20,18 @@ returns-in-Ok-None-clause-ok g c =
     subst (λ (found : Option ℕ). FiledOn s c.args.moment caller command c.args.text (Ok found) old mid)
     c.in-Ok-None.field-0-is at_moment in
     not_filed s (settings_of g.S.Store c.filed_lately.new.self) c.args.moment caller command
-    c.args.sent.now c.submit.result c.submit.new.room.items old mid
-    (tables_of g.S.Store c.submit.new.desk) c.filed_lately.ensures.same c.submit.ensures.left.clean
+    c.args.sent.now c.submit-done.result c.submit-done.new.room.items old mid
+    (tables_of g.S.Store c.submit-done.new.desk) c.filed_lately.ensures.same c.submit-done.ensures.left.clean
     (subst (λ (text : Option (List ℕ)). FiledOn s c.args.moment caller command text (Ok None) old mid)
-    c.requires.text none) c.submit.ensures.ok
+    c.requires.text none) c.submit-done.ensures.ok
 
 pub returns-in-Ok-None-clause-err : goal.returns-in-Ok-None-clause-err
 returns-in-Ok-None-clause-err g c =
-    stays_after (c.submit.new.room ≡ c.args.room.now) (settings_of g.S.Store c.args.desk.now)
-    (settings_of g.S.Store c.filed_lately.new.self) c.submit.result (tables_of g.S.Store c.args.desk.now)
-    (tables_of g.S.Store c.filed_lately.new.self) (tables_of g.S.Store c.submit.new.desk)
-    c.filed_lately.ensures.same c.submit.ensures.left.clean c.filed_lately.ensures.kept
-    c.submit.ensures.err
+    stays_after (c.submit-done.new.room ≡ c.args.room.now) (settings_of g.S.Store c.args.desk.now)
+    (settings_of g.S.Store c.filed_lately.new.self) c.submit-done.result (tables_of g.S.Store c.args.desk.now)
+    (tables_of g.S.Store c.filed_lately.new.self) (tables_of g.S.Store c.submit-done.new.desk)
+    c.filed_lately.ensures.same c.submit-done.ensures.left.clean c.filed_lately.ensures.kept
+    c.submit-done.ensures.err
 
 pub returns-in-Ok-Some-clause-ok : goal.returns-in-Ok-Some-clause-ok
 returns-in-Ok-Some-clause-ok g c =
