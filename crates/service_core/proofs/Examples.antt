@@ -4,6 +4,7 @@ use Rattle.std.specs.Prelude.{◌≡◌, refl, true, false, ℕ, List, [], ◌�
 use Rattle.std.specs.Prelude.{Ok, Err}
 use Rattle.settings_core.specs.Settings.{lifecycle_named}
 use Rattle.settings_core.specs.declared.settings.Settings.{Settings}
+use Rattle.text_core.specs.Form.{is_text}
 use Rattle.desk_model.specs.Known.{knows_status}
 use Rattle.desk_model.specs.Lifecycles.{has_status}
 use Rattle.desk_model.specs.Rights.{may_show}
@@ -251,22 +252,20 @@ no_text_of_a_filing = refl
 text_of_another_command : text_taken (Take 7) (Some (codes "It is empty.")) ≡ None
 text_of_another_command = refl
 
-empty_text : (settings : Settings) → refusal_of_text settings [] ≡ Some BadText
-empty_text settings = refl
+text_out_of_its_form :
+    (settings : Settings) → is_text (codes "Hi") ≡ false
+    → refusal_of_text (record settings { max_entries = 1 }) (codes "Hi") ≡ Some BadText
+text_out_of_its_form settings e = rw e refl
 
 room_for_one_entry :
-    (settings : Settings)
+    (settings : Settings) → is_text (codes "Hi") ≡ true
     → refusal_of_text (record settings { max_entries = 1 }) (codes "Hi") ≡ Some Full
-room_for_one_entry settings = refl
+room_for_one_entry settings e = rw e refl
 
-room_for_two : (settings : Settings)
+room_for_two :
+    (settings : Settings) → is_text (codes "Hi") ≡ true
     → refusal_of_text (record settings { max_entries = 2 }) (codes "Hi") ≡ None
-room_for_two settings = refl
-
--- a text that isn't of its form is told first
-bad_text_without_room :
-    (settings : Settings) → refusal_of_text (record settings { max_entries = 1 }) [] ≡ Some BadText
-bad_text_without_room settings = refl
+room_for_two settings e = rw e refl
 
 second_entry :
     text_entry 7 29546970 (codes "ann") (codes "Hi")
