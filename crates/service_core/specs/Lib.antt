@@ -8,6 +8,7 @@ pub mod Filed
 pub mod Finding
 pub mod Homes
 pub mod Leaves
+pub mod LinkedRows
 pub mod Loading
 pub mod QueueVisibility
 pub mod Renewing
