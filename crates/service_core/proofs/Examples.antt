@@ -1,9 +1,12 @@
 -- Examples of the definitions: the ends of links by their kind, which entries are told, which statuses
--- the settings know, which request was filed already, and parts of the first page.
+-- the settings know, which request was filed already, the rows of linked requests, and parts of the
+-- first page.
 use Rattle.std.specs.Prelude.{◌≡◌, refl, true, false, ℕ, List, [], ◌∷◌, ◌++◌, Some, None, codes}
 use Rattle.std.specs.Prelude.{Ok, Err}
 use Rattle.settings_core.specs.Settings.{lifecycle_named}
 use Rattle.settings_core.specs.declared.settings.Settings.{Settings}
+use Rattle.desk_model.specs.Desk as model
+use Rattle.desk_model.specs.Desk.{Request}
 use Rattle.text_core.specs.Form.{is_text}
 use Rattle.desk_model.specs.Known.{knows_status}
 use Rattle.desk_model.specs.Lifecycles.{has_status}
@@ -29,6 +32,7 @@ use Rattle.service_core.specs.Attaching.{of_queues}
 use Rattle.service_core.specs.Filed.{are_requestors, is_as, is_filed_with, is_filer, is_row, numbers_down}
 use Rattle.service_core.specs.Filing.{entries_of_text, refusal_of_text, text_entry, text_taken, with_text}
 use Rattle.service_core.specs.Homes.{part_of}
+use Rattle.service_core.specs.LinkedRows.{linked_numbers, rows_at}
 use Rattle.service_core.specs.Shown.{is_told, numbers_at}
 use Rattle.service_core.specs.declared.links.End.TheVariants.{Source, Target}
 
@@ -217,6 +221,40 @@ none_are_there = refl
 
 none_are_asked_for : numbers_down 3 0 ≡ []
 none_are_asked_for = refl
+
+-- ---- the rows of linked requests
+
+-- a list of links after the other, and a request as often as it is linked
+numbers_of_all_links :
+    linked_numbers (record {
+      depends_on = 3 ∷ 4 ∷ [];
+      depended_on_by = 1 ∷ [];
+      member_of = [];
+      has_member = 4 ∷ [];
+      refers_to = [];
+      referred_to_by = 2 ∷ [];
+    })
+    ≡ 3 ∷ 4 ∷ 1 ∷ 4 ∷ 2 ∷ []
+numbers_of_all_links = refl
+
+abbrev numbered : ℕ → Request
+numbered id =
+    record {
+      row = record (new_in (codes "general")) { id = id };
+      requestors = [];
+      cc = [];
+      admin_cc = [];
+      entries = [];
+    }
+
+abbrev two_requests : model.Desk
+two_requests = record { queues = []; requests = numbered 1 ∷ numbered 3 ∷ []; links = [] }
+
+-- in the order of the numbers, whatever that of the requests
+rows_of_those_that_are_there :
+    rows_at two_requests (3 ∷ 2 ∷ 1 ∷ 3 ∷ [])
+    ≡ (numbered 3).row ∷ (numbered 1).row ∷ (numbered 3).row ∷ []
+rows_of_those_that_are_there = refl
 
 -- ---- the first page
 

@@ -11,7 +11,7 @@ use Rattle.desk_model.specs.declared.refusal.Refusal.TheVariants.{Unavailable}
 use Rattle.find_core.specs.Find.{refusal_of, unless_refused}
 
 module _ {X : Type 0} where
-  as_read : (result : Result X Refusal) (answer : X)
+  pub as_read : (result : Result X Refusal) (answer : X)
       → IfOk result (λ it. it ≡ answer) → IfErr result (λ refusal. refusal ≡ Unavailable)
       → result ≢ Err Unavailable → result ≡ Ok answer
   as_read (Ok it) answer same fault other = ap Ok same

@@ -13,6 +13,7 @@ pub mod RunsAlike
 pub mod StayLemmas
 pub mod WrittenAlike
 pub mod Linked
+pub mod LinkedAlike
 pub mod TestLemmas
 pub mod ToldLemmas
 pub mod Telling

@@ -9,6 +9,7 @@ pub mod Filing
 pub mod Finding
 pub mod Homes
 pub mod Leaves
+pub mod LinkedRows
 pub mod Loading
 pub mod QueueVisibility
 pub mod Renewing

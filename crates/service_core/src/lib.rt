@@ -19,13 +19,14 @@
 //!   takes. The tables stand for the desk that they stood for.
 //! - `Desk::find` is a search (`FindsOn`), `Desk::queue_loads` what each queue has open (`LoadsOn`).
 //!   `Desk::home` is three searches for what is open, and those loads, by one look at the rows
-//!   (`HomeOn`). `Desk::dossier` is what `show` and `history` answer, by one look (`DossierOn`).
+//!   (`HomeOn`). `Desk::dossier` is what `show` and `history` answer, by one look (`DossierOn`), and
+//!   `Desk::linked_rows` the rows of the requests that it names (`LinkedOn`).
 //! - The due moments kept are those of the desk (`kept_due_law`).
 //!
 //! What `refusal_without_facts` refuses costs no statement, a command on a request that isn't there
 //! one, but `link` and `link -d` two, four or five. `queues` reads one row where the grants let the
 //! caller see one queue alone, else all. `show` asks once or twice for each request that one
-//! is linked with, and goes over all links. `ls`, `overdue` and `workload` go over all requests, and
+//! is linked with, and goes over all links; `linked_rows` asks as often for each number. `ls`, `overdue` and `workload` go over all requests, and
 //! so do `find`, `queue_loads` and `home`, by three statements or four; one more where a search asks
 //! for a requestor. A search in the texts of replies, or by the last entry, asks one more for each
 //! request that meets it but for its words, and any search six for each that it tells.
@@ -44,6 +45,7 @@ mod filing;
 mod find;
 mod home;
 mod known;
+mod linked_rows;
 mod links;
 mod loads;
 mod queues;

@@ -9,6 +9,7 @@ pub mod Renewed
 pub mod Revised
 pub mod RiseLemmas
 pub mod RunLemmas
+pub mod ShownLemmas
 pub mod StandsAlike
 pub mod StaysWritten
 pub mod Writable

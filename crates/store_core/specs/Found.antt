@@ -39,6 +39,10 @@ has_number id r = r.row.id == id
 abbrev pub queue_by : Desk → Option SeenRequest → Option QueueRow
 queue_by desk request = option_and_then (λ s. queue_at desk s.row.queue) request
 
+-- the row of the request of that number, if it is there
+abbrev pub request_row_at : Desk → ℕ → Option RequestRow
+request_row_at desk id = option_map (λ r. r.row) (request_at desk id)
+
 -- what the request of that number is to one that depends on it
 abbrev pub dependency_at : Desk → ℕ → Option Dependency
 dependency_at desk id = option_and_then (as_dependency desk) (request_at desk id)
