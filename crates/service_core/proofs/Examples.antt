@@ -1,10 +1,11 @@
 -- Examples of the definitions: the ends of links by their kind, which entries are told, which statuses
--- the settings know, which request was filed already, the rows of linked requests, and parts of the
--- first page.
+-- the settings know, which request was filed already, a filing with its text, the rows of linked
+-- requests, and parts of the first page.
 use Rattle.std.specs.Prelude.{◌≡◌, refl, true, false, ℕ, List, [], ◌∷◌, ◌++◌, Some, None, codes}
-use Rattle.std.specs.Prelude.{Ok, Err}
+use Rattle.std.specs.Prelude.{Ok, Err, Bool, not, nat_lt, ap}
 use Rattle.settings_core.specs.Settings.{lifecycle_named}
 use Rattle.settings_core.specs.declared.settings.Settings.{Settings}
+use Rattle.desk_model.specs.Condition.{first_holding}
 use Rattle.desk_model.specs.Desk as model
 use Rattle.desk_model.specs.Desk.{Request}
 use Rattle.text_core.specs.Form.{is_text}
@@ -293,17 +294,20 @@ text_of_another_command = refl
 text_out_of_its_form :
     (settings : Settings) → is_text (codes "Hi") ≡ false
     → refusal_of_text (record settings { max_entries = 1 }) (codes "Hi") ≡ Some BadText
-text_out_of_its_form settings e = rw e refl
+text_out_of_its_form settings e =
+    ap (λ (b : Bool). first_holding ((BadText, not b) ∷ (Full, nat_lt 1 2) ∷ [])) e
 
 room_for_one_entry :
     (settings : Settings) → is_text (codes "Hi") ≡ true
     → refusal_of_text (record settings { max_entries = 1 }) (codes "Hi") ≡ Some Full
-room_for_one_entry settings e = rw e refl
+room_for_one_entry settings e =
+    ap (λ (b : Bool). first_holding ((BadText, not b) ∷ (Full, nat_lt 1 2) ∷ [])) e
 
 room_for_two :
     (settings : Settings) → is_text (codes "Hi") ≡ true
     → refusal_of_text (record settings { max_entries = 2 }) (codes "Hi") ≡ None
-room_for_two settings e = rw e refl
+room_for_two settings e =
+    ap (λ (b : Bool). first_holding ((BadText, not b) ∷ (Full, nat_lt 2 2) ∷ [])) e
 
 second_entry :
     text_entry 7 29546970 (codes "ann") (codes "Hi")
