@@ -2,7 +2,8 @@
 -- the settings know, which request was filed already, a filing with its text, the rows of linked
 -- requests, and parts of the first page.
 use Rattle.std.specs.Prelude.{◌≡◌, refl, true, false, ℕ, List, [], ◌∷◌, ◌++◌, Some, None, codes}
-use Rattle.std.specs.Prelude.{Ok, Err, Bool, not, nat_lt, ap}
+use Rattle.std.specs.Prelude.{Ok, Err, Bool, not, nat_lt}
+use Rattle.std.proofs.Common.{ap}
 use Rattle.settings_core.specs.Settings.{lifecycle_named}
 use Rattle.settings_core.specs.declared.settings.Settings.{Settings}
 use Rattle.desk_model.specs.Condition.{first_holding}
