@@ -184,9 +184,14 @@ def facts(desk, at, shown):
     for heading, role in (("Cc", "cc"), ("AdminCc", "admincc")):
         told_of[heading] = sorted(one.roles[role])
     for kind, inverse in INVERSES:
-        told_of[NAMES[kind]] = sorted(it.target for it in shown.linked if it.kind == kind)
-        told_of[NAMES[inverse]] = sorted(it.source for it in shown.linking if it.kind == kind)
+        told_of[NAMES[kind]] = linked(desk, (it.target for it in shown.linked if it.kind == kind))
+        told_of[NAMES[inverse]] = linked(desk, (it.source for it in shown.linking if it.kind == kind))
     return {heading: value for heading, value in told_of.items() if value or heading == "Requestors"}
+
+
+def linked(desk, numbers):
+    """The requests that one is linked with: their numbers, subjects and statuses."""
+    return [[it, desk.requests[it - 1].subject, desk.requests[it - 1].status] for it in sorted(numbers)]
 
 
 def dated(moment, level):

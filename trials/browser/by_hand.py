@@ -127,7 +127,10 @@ def changing():
         browser.put(f"{link} [name=other]", "7")
         browser.follow(f"{link} button:not([formaction])")
         expect("a link", (last_of(visitor, 7), browser.path()), (f"link MemberOf {TALK}", AT))
-        holds("it isn't shown", browser.has(".facts a[href='/desk/requests/7']"))
+        told = visitor.told("/requests/7").text
+        expect("what is shown of it", [browser.text(f".facts a[href='/desk/requests/7']{it}") for it in
+                                       ("", " + small")],
+               ["#7 " + re.search("(?m)^subject: (.*)$", told)[1], re.search("(?m)^status: (.*)$", told)[1]])
         suggested = browser.run("[...document.querySelectorAll('#people option')]"
                                 ".map(it => it.value)")
         holds(f"suggested are {suggested}", {"ann", "bob", "cid", "eva"} <= set(suggested))

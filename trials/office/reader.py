@@ -218,8 +218,12 @@ def fact(div):
         spans = [it for it in told.all("span") if it.above is told]
         return heading, [it.text() for it in spans]
     if heading in LINKS:
-        return heading, [int(it.text()) for it in told.all("a")]
+        return heading, [linked(*it) for it in zip(told.all("a"), told.all("small"))]
     return heading, told.text()
+
+
+def linked(link, status):
+    return [int(link.parts[0].strip().removeprefix("#")), link.one("bdi").raw(), status.text()]
 
 
 def entry(item):

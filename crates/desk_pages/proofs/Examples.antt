@@ -40,7 +40,7 @@ use Rattle.desk_pages.specs.Facts.{facts}
 use Rattle.desk_pages.specs.Frame.{bare_bottom, bare_top}
 use Rattle.desk_pages.specs.History.{history, last_number, newer_entries, telling}
 use Rattle.desk_pages.specs.Home.{lists, section}
-use Rattle.desk_pages.specs.Lists.{link_row, members, others, person_row}
+use Rattle.desk_pages.specs.Lists.{link_row, link_told, members, others, person_row}
 use Rattle.desk_pages.specs.Moves.{closing_after, closings, folded, may_go, offer}
 use Rattle.desk_pages.specs.Owner.{owner_form}
 use Rattle.desk_pages.specs.Overtaken.{deed_of, overtaken}
@@ -79,8 +79,8 @@ unfolding choice filled_from
 choice_that_is_not_chosen = refl
 
 link_without_a_button :
-    page_bytes (link_row false 3 (codes "ann") (codes "MemberOf") 12) ≡ codes "<a href=\"/desk/requests/12\">12</a> "
-unfolding digits filled_from link_row
+    page_bytes (link_row false 3 (codes "ann") [] (codes "MemberOf") 12) ≡ codes "<a href=\"/desk/requests/12\">#12 <bdi></bdi></a> <small></small> "
+unfolding digits filled_from link_row link_told
 link_without_a_button = refl
 
 way_to_a_request :
@@ -420,18 +420,36 @@ no_links =
       referred_to_by = [];
     }
 
--- the cross opens a button that takes away the link of the kind that stands above it
+abbrev row_of_help : RequestRow
+row_of_help =
+    record {
+      id = 3;
+      queue = codes "help";
+      subject = codes "Ink";
+      status = codes "new";
+      owner = None;
+      level = None;
+      created = 1;
+      opened = 1;
+      turn = Desk;
+      since = 1;
+    }
+
+-- the row of that number tells of it, and the cross opens a button that takes away the link of the
+-- kind that stands above it
 member_of_one_request :
-    page_bytes (members true 3 (codes "bob") (record no_links { member_of = 12 ∷ [] }))
-    ≡ codes "<div><dt>Member of</dt><dd><a href=\"/desk/requests/12\">12</a> <details><summary><span aria-hidden=\"true\">"
+    page_bytes (members true 3 (codes "bob") (row_of_help ∷ record row_of_help { id = 12; subject = codes "<i>" } ∷ [])
+    (record no_links { member_of = 12 ∷ [] }))
+    ≡ codes "<div><dt>Member of</dt><dd><a href=\"/desk/requests/12\">#12 <bdi>&lt;i&gt;</bdi></a> <small>new</small> <details><summary><span aria-hidden=\"true\">"
     ++ (195 ∷ (151 ∷ codes "</span><span class=\"off\">Unlink 12</span></summary><form method=\"post\" action=\"/desk/requests/3/unlink\"><input type=\"hidden\" name=\"me\" value=\"bob\"><input type=\"hidden\" name=\"kind\" value=\"MemberOf\"><input type=\"hidden\" name=\"other\" value=\"12\"><button>Unlink it: MemberOf 12</button></form></details> </dd></div>\n"))
-unfolding digits filled_from link_row others
+unfolding digits filled_from link_row link_told others
 member_of_one_request = refl
 
 two_members_without_crosses :
-    page_bytes (members false 3 (codes "bob") (record no_links { has_member = 4 ∷ 12 ∷ [] }))
-    ≡ codes "<div><dt>Has members</dt><dd><a href=\"/desk/requests/4\">4</a> <a href=\"/desk/requests/12\">12</a> </dd></div>\n"
-unfolding digits filled_from link_row others
+    page_bytes (members false 3 (codes "bob") (record row_of_help { id = 12 } ∷ [])
+    (record no_links { has_member = 4 ∷ 12 ∷ [] }))
+    ≡ codes "<div><dt>Has members</dt><dd><a href=\"/desk/requests/4\">#4 <bdi></bdi></a> <small></small> <a href=\"/desk/requests/12\">#12 <bdi>Ink</bdi></a> <small>new</small> </dd></div>\n"
+unfolding digits filled_from link_row link_told others
 two_members_without_crosses = refl
 
 -- the button says whom it takes out of what, and does that
@@ -587,21 +605,6 @@ unfolding lists
 lists_of_the_first_page = refl
 
 -- ---- what a person may do
-
-abbrev row_of_help : RequestRow
-row_of_help =
-    record {
-      id = 3;
-      queue = codes "help";
-      subject = codes "Ink";
-      status = codes "new";
-      owner = None;
-      level = None;
-      created = 1;
-      opened = 1;
-      turn = Desk;
-      since = 1;
-    }
 
 -- a request of ann's in this status, that this person owns
 abbrev owned_by : Option (List ℕ) → List ℕ → Shown
@@ -775,14 +778,14 @@ acts_of_its_requestor settings e = rw e refl
 
 shown_with_buttons :
     (settings : Settings) → people_of settings ≡ people
-    → request_shown 3 (codes "eve") 10 settings dossier
-    ≡ request_top row_of_help ++ (facts true 3 (codes "eve") 10 settings dossier ++ history [])
+    → request_shown 3 (codes "eve") 10 settings dossier []
+    ≡ request_top row_of_help ++ (facts true 3 (codes "eve") 10 settings dossier [] ++ history [])
 unfolding holds is_member leads_within modify_ticket super_user
 shown_with_buttons settings e = rw e refl
 
 shown_without_buttons :
     (settings : Settings) → people_of settings ≡ people
-    → request_shown 3 (codes "ann") 10 settings dossier
-    ≡ request_top row_of_help ++ (facts false 3 (codes "ann") 10 settings dossier ++ history [])
+    → request_shown 3 (codes "ann") 10 settings dossier []
+    ≡ request_top row_of_help ++ (facts false 3 (codes "ann") 10 settings dossier [] ++ history [])
 unfolding holds is_member leads_within modify_ticket super_user
 shown_without_buttons settings e = rw e refl

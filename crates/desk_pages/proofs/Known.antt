@@ -53,14 +53,15 @@ same_own moment later settings rules dossier file same =
     (same_filled FILED_END.now refl _ _ _))))
 
 pub same_facts : (buttons now : Bool) (id another : ℕ) (caller person : List ℕ) (moment later : ℕ)
-    (settings rules : Settings) (dossier file : Dossier) → buttons ≡ now
-    → facts_told moment settings dossier ≡ facts_told later rules file
-    → SameMarkup (facts buttons id caller moment settings dossier)
-    (facts now another person later rules file)
+    (settings rules : Settings) (dossier file : Dossier) (rows lines : List RequestRow)
+    → buttons ≡ now → facts_told moment settings dossier ≡ facts_told later rules file
+    → SameMarkup (facts buttons id caller moment settings dossier rows)
+    (facts now another person later rules file lines)
 unfolding through
-same_facts buttons now id another caller person moment later settings rules dossier file button same =
+same_facts buttons now id another caller person moment later settings rules dossier file rows lines
+    button same =
     same_both (same_own moment later settings rules dossier file same)
     (same_both (same_roles buttons now id another caller person dossier.shown file.shown button
     (ap (λ told. told.many) same))
-    (same_both (same_links buttons now id another caller person dossier.shown file.shown button
+    (same_both (same_links buttons now id another caller person rows lines dossier.shown file.shown button
     (ap (λ told. told.many) same)) (same_filled FACTS_END.now refl _ _ _)))

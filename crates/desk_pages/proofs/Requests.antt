@@ -51,10 +51,11 @@ same_writing id another caller person seen last status other replies now comment
     ap (λ flag. flag ∷ []) none))))
 
 pub request_same : (caller other : List ℕ) (moment later : ℕ) (settings rules : Settings)
-    (dossier file : Dossier)
+    (dossier file : Dossier) (rows lines : List RequestRow)
     → request_told caller moment settings dossier ≡ request_told other later rules file
-    → SameMarkup (request_page caller moment settings dossier) (request_page other later rules file)
-request_same caller other moment later settings rules dossier file same =
+    → SameMarkup (request_page caller moment settings dossier rows)
+    (request_page other later rules file lines)
+request_same caller other moment later settings rules dossier file rows lines same =
     let row = dossier.shown.row in
     let line = file.shown.row in
     let opened = ap (λ told. told.opened) same in
@@ -66,6 +67,7 @@ request_same caller other moment later settings rules dossier file same =
     (same_both (same_request_top row line)
     (same_both (same_facts (may_modify settings dossier.shown caller)
     (may_modify rules file.shown other) row.id line.id caller other moment later settings rules dossier file
+    rows lines
     (ap (λ told. told.modifies) same) (ap (λ told. told.facts) same))
     (same_history dossier.entries file.entries (ap (λ told. told.kinds) same))))
     (same_both (same_writing row.id line.id caller other (last_number dossier.entries)

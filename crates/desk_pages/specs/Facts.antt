@@ -70,12 +70,13 @@ own_facts moment settings dossier =
     ++ (due_fact zone dossier.shown.due
     ++ (level_facts late dossier.shown.row ++ filed_fact zone dossier.shown.row.created))
 
--- all of them, of the request of a number, with buttons for a caller or without
-abbrev pub facts : Bool → ℕ → List ℕ → ℕ → Settings → Dossier → List Part
-facts buttons id caller moment settings dossier =
+-- all of them, of the request of a number, with crosses for a caller or without; these rows tell of the
+-- requests that it is linked with
+abbrev pub facts : Bool → ℕ → List ℕ → ℕ → Settings → Dossier → List RequestRow → List Part
+facts buttons id caller moment settings dossier rows =
     own_facts moment settings dossier
     ++ (roles buttons id caller dossier.shown
-    ++ (links_told buttons id caller dossier.shown.links ++ filled FACTS_END.now [] []))
+    ++ (links_told buttons id caller rows dossier.shown.links ++ filled FACTS_END.now [] []))
 
 -- what the markup tells: whether it is due, whether it is late, and whether local time stands beside
 -- when it is due and when it was filed; and how many there are in its lists

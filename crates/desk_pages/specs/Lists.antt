@@ -1,9 +1,12 @@
 -- The persons of a request and the requests that it is linked with, each with a cross. That opens
 -- a button, which says what it takes out or away, and does it.
-use Rattle.std.specs.Prelude.{ℕ, Bool, true, List, [], ◌∷◌, ◌++◌, codes, decimal, length}
+use Rattle.std.specs.Prelude.{ℕ, Bool, true, List, [], ◌∷◌, ◌++◌, ◌==◌, Option, codes, decimal}
+use Rattle.std.specs.Prelude.{find, length}
 use Rattle.std.specs.List.{flat_map}
+use Rattle.std.specs.Option.{option_map_or}
 use Rattle.desk_model.specs.declared.answer.Links.{Links}
 use Rattle.desk_model.specs.declared.answer.Shown.{Shown}
+use Rattle.desk_model.specs.declared.rows.RequestRow.{RequestRow}
 use Rattle.page_core.specs.Page.{Part}
 use Rattle.page_core.specs.Template.{filled}
 use Rattle.desk_pages.specs.Pieces.{is_filled}
@@ -22,18 +25,34 @@ persons headed buttons id caller role heading names =
     filled LIST_TOP.now (heading ∷ []) (headed ∷ [])
     ++ (flat_map (person_row buttons id caller role) names ++ filled LIST_END.now [] (headed ∷ []))
 
--- another request in a kind of links
-unfoldable pub link_row : Bool → ℕ → List ℕ → List ℕ → ℕ → List Part
-link_row buttons id caller link n =
+-- the row of the request of a number among these
+abbrev pub row_numbered : List RequestRow → ℕ → Option RequestRow
+row_numbered rows n = find (λ row. row.id == n) rows
+
+-- its subject and its status, or nothing if there is none
+abbrev pub subject_of : List RequestRow → ℕ → List ℕ
+subject_of rows n = option_map_or (λ row. row.subject) (row_numbered rows n) []
+
+abbrev pub status_of : List RequestRow → ℕ → List ℕ
+status_of rows n = option_map_or (λ row. row.status) (row_numbered rows n) []
+
+-- another request in a kind of links, with its subject and its status
+unfoldable pub link_told : Bool → ℕ → List ℕ → List ℕ → List ℕ → List ℕ → ℕ → List Part
+link_told buttons id caller subject status link n =
     filled LINK_ROW.now
-    (decimal n ∷ decimal n ∷ decimal n ∷ decimal id ∷ caller ∷ link ∷ decimal n ∷ link
-    ∷ decimal n ∷ []) (buttons ∷ [])
+    (decimal n ∷ decimal n ∷ subject ∷ status ∷ decimal n ∷ decimal id ∷ caller ∷ link ∷ decimal n
+    ∷ link ∷ decimal n ∷ []) (buttons ∷ [])
+
+-- and as these rows tell of it
+unfoldable pub link_row : Bool → ℕ → List ℕ → List RequestRow → List ℕ → ℕ → List Part
+link_row buttons id caller rows link n =
+    link_told buttons id caller (subject_of rows n) (status_of rows n) link n
 
 -- requests in a kind of links, under a heading if there are any
-unfoldable pub others : Bool → ℕ → List ℕ → List ℕ → List ℕ → List ℕ → List Part
-others buttons id caller link heading ns =
+unfoldable pub others : Bool → ℕ → List ℕ → List RequestRow → List ℕ → List ℕ → List ℕ → List Part
+others buttons id caller rows link heading ns =
     filled LIST_TOP.now (heading ∷ []) (is_filled ns ∷ [])
-    ++ (flat_map (link_row buttons id caller link) ns ++ filled LIST_END.now [] (is_filled ns ∷ []))
+    ++ (flat_map (link_row buttons id caller rows link) ns ++ filled LIST_END.now [] (is_filled ns ∷ []))
 
 -- the persons of a request in their roles; there is a heading for requestors even if there are none
 abbrev pub roles : Bool → ℕ → List ℕ → Shown → List Part
@@ -44,24 +63,25 @@ roles buttons id caller shown =
     shown.admin_cc)
 
 -- the requests that it is linked with, in each of the six kinds
-abbrev pub dependencies : Bool → ℕ → List ℕ → Links → List Part
-dependencies buttons id caller links =
-    others buttons id caller (codes "DependsOn") (codes "Depends on") links.depends_on
-    ++ others buttons id caller (codes "DependedOnBy") (codes "Depended on by") links.depended_on_by
+abbrev pub dependencies : Bool → ℕ → List ℕ → List RequestRow → Links → List Part
+dependencies buttons id caller rows links =
+    others buttons id caller rows (codes "DependsOn") (codes "Depends on") links.depends_on
+    ++ others buttons id caller rows (codes "DependedOnBy") (codes "Depended on by") links.depended_on_by
 
-abbrev pub members : Bool → ℕ → List ℕ → Links → List Part
-members buttons id caller links =
-    others buttons id caller (codes "MemberOf") (codes "Member of") links.member_of
-    ++ others buttons id caller (codes "HasMember") (codes "Has members") links.has_member
+abbrev pub members : Bool → ℕ → List ℕ → List RequestRow → Links → List Part
+members buttons id caller rows links =
+    others buttons id caller rows (codes "MemberOf") (codes "Member of") links.member_of
+    ++ others buttons id caller rows (codes "HasMember") (codes "Has members") links.has_member
 
-abbrev pub references : Bool → ℕ → List ℕ → Links → List Part
-references buttons id caller links =
-    others buttons id caller (codes "RefersTo") (codes "Refers to") links.refers_to
-    ++ others buttons id caller (codes "ReferredToBy") (codes "Referred to by") links.referred_to_by
+abbrev pub references : Bool → ℕ → List ℕ → List RequestRow → Links → List Part
+references buttons id caller rows links =
+    others buttons id caller rows (codes "RefersTo") (codes "Refers to") links.refers_to
+    ++ others buttons id caller rows (codes "ReferredToBy") (codes "Referred to by") links.referred_to_by
 
-abbrev pub links_told : Bool → ℕ → List ℕ → Links → List Part
-links_told buttons id caller links =
-    dependencies buttons id caller links ++ (members buttons id caller links ++ references buttons id caller links)
+abbrev pub links_told : Bool → ℕ → List ℕ → List RequestRow → Links → List Part
+links_told buttons id caller rows links =
+    dependencies buttons id caller rows links
+    ++ (members buttons id caller rows links ++ references buttons id caller rows links)
 
 -- what the markup tells of them: how many there are in each role, and in each kind of links
 abbrev pub many_told : Shown → List ℕ

@@ -55,10 +55,10 @@ writing id caller seen status replies comments =
     ++ filled WRITING_END.now [] ((not replies && not comments) ∷ [])))
 
 -- what is told of the request of this number, to a caller at a moment
-abbrev pub request_shown : ℕ → List ℕ → ℕ → Settings → Dossier → List Part
-request_shown id caller moment settings dossier =
+abbrev pub request_shown : ℕ → List ℕ → ℕ → Settings → Dossier → List RequestRow → List Part
+request_shown id caller moment settings dossier rows =
     request_top dossier.shown.row
-    ++ (facts (may_modify settings dossier.shown caller) id caller moment settings dossier
+    ++ (facts (may_modify settings dossier.shown caller) id caller moment settings dossier rows
     ++ history dossier.entries)
 
 -- what may be done with it
@@ -69,16 +69,16 @@ request_acts id caller settings dossier =
     ++ change caller settings dossier
 
 -- the content of the page
-abbrev pub request_content : List ℕ → ℕ → Settings → Dossier → List Part
-request_content caller moment settings dossier =
-    request_shown dossier.shown.row.id caller moment settings dossier
+abbrev pub request_content : List ℕ → ℕ → Settings → Dossier → List RequestRow → List Part
+request_content caller moment settings dossier rows =
+    request_shown dossier.shown.row.id caller moment settings dossier rows
     ++ request_acts dossier.shown.row.id caller settings dossier
 
--- the page of a request, for a caller at a moment
-abbrev pub request_page : List ℕ → ℕ → Settings → Dossier → List Part
-request_page caller moment settings dossier =
+-- the page of a request, for a caller at a moment; the rows tell of those that it is linked with
+abbrev pub request_page : List ℕ → ℕ → Settings → Dossier → List RequestRow → List Part
+request_page caller moment settings dossier rows =
     top (request_title dossier.shown.row.id dossier.shown.row.subject) place.Elsewhere caller
-    ++ (request_content caller moment settings dossier ++ bottom moment)
+    ++ (request_content caller moment settings dossier rows ++ bottom moment)
 
 -- what the markup of the page tells: whether the caller is a requestor; whether the caller may change it,
 -- reply and comment; what is told of its facts, the kinds of its entries, whether it can be closed with

@@ -15,8 +15,8 @@ use page_core::{Value, fill};
 use settings_core::Settings;
 use std::alloc::AllocError;
 
-/// Puts what is told of the request of this number to a caller at a moment. `buttons` is whether persons can be
-/// taken out, and links away.
+/// Puts what is told of the request of this number to a caller at a moment. `buttons` is whether
+/// persons can be taken out, and links away; `rows` tell of the requests that it is linked with.
 pub(crate) fn put_facts(
     out: &mut Vec<u8>,
     buttons: bool,
@@ -25,14 +25,15 @@ pub(crate) fn put_facts(
     moment: Minute,
     settings: &Settings,
     dossier: &Dossier,
+    rows: &[RequestRow],
 ) -> Result<(), AllocError>
     ensures { OnOk result (out.new.items ≡ out.old.items
-        ++ page_bytes (form.facts buttons id caller.now moment settings.now dossier.now)) }
+        ++ page_bytes (form.facts buttons id caller.now moment settings.now dossier.now rows.now)) }
 {
     let shown = &dossier.shown;
     put_own_facts(out, moment, settings, dossier)?;
     put_roles(out, buttons, id, caller, shown)?;
-    put_links(out, buttons, id, caller, &shown.links)?;
+    put_links(out, buttons, id, caller, rows, &shown.links)?;
     fill(out, FACTS_END, &[], &[])
 }
 

@@ -7,6 +7,7 @@ ghost use Rattle.desk_model.specs.declared.answer.Dossier.{Dossier};
 ghost use Rattle.desk_model.specs.declared.answer.Load.{Load};
 ghost use Rattle.desk_model.specs.declared.refusal.Refusal.{Refusal};
 ghost use Rattle.desk_model.specs.declared.rows.Entry.{Entry};
+ghost use Rattle.desk_model.specs.declared.rows.RequestRow.{RequestRow};
 ghost use Rattle.find_core.specs.declared.loads.QueueLoad.{QueueLoad};
 ghost use Rattle.find_core.specs.declared.search.Findings.{Findings};
 ghost use Rattle.find_form.specs.declared.form.FindForm.{FindForm};
@@ -168,11 +169,11 @@ pub fn overtaken_page_law()
 /// and other requests each of its lists has, and the kinds of its entries in their order. Of what may
 /// change it the markup tells which moves there are and how many levels and suggested names, and
 /// which level is the present one, but not who owns the request; and whether it can be closed with a
-/// reply.
+/// reply. Of the requests that it is linked with it tells nothing more.
 pub fn request_page_law()
     ensures { (caller other : List ℕ) (moment later : ℕ) (settings rules : Settings)
-        (dossier file : Dossier)
+        (dossier file : Dossier) (rows lines : List RequestRow)
         → request_told caller moment settings dossier ≡ request_told other later rules file
-        → SameMarkup (request_page caller moment settings dossier)
-        (request_page other later rules file) }
+        → SameMarkup (request_page caller moment settings dossier rows)
+        (request_page other later rules file lines) }
 {}

@@ -25,22 +25,24 @@ use std::alloc::{AllocError, Global};
 /// change it each person and each link has a cross, which opens a button that takes it out or away.
 /// The class of its status is that of the lifecycle of its queue; where the settings have no such
 /// lifecycle, it has none. Local time by the calendar of its level stands beside when it is due and
-/// when it was filed.
+/// when it was filed. Beside the number of a request that it is linked with stand the subject and the
+/// status of its row, if there is one among `rows`.
 pub fn request_page(
     alloc: Global,
     caller: &str,
     moment: Minute,
     settings: &Settings,
     dossier: &Dossier,
+    rows: &[RequestRow],
 ) -> Result<Vec<u8>, AllocError>
     ensures { IfOk result (λ page. page.items ≡ page_bytes
-        (form.request_page caller.now moment settings.now dossier.now)) }
+        (form.request_page caller.now moment settings.now dossier.now rows.now)) }
 {
     let row = &dossier.shown.row;
     let title = title_of(alloc, row.id, row.subject.as_str())?;
     let mut out = Vec::new(alloc);
     put_top(&mut out, title.as_str(), Place::Elsewhere, caller)?;
-    put_content(alloc, &mut out, caller, moment, settings, dossier)?;
+    put_content(alloc, &mut out, caller, moment, settings, dossier, rows)?;
     put_bottom(&mut out, moment)?;
     Ok(out)
 }
@@ -61,12 +63,13 @@ fn put_content(
     moment: Minute,
     settings: &Settings,
     dossier: &Dossier,
+    rows: &[RequestRow],
 ) -> Result<(), AllocError>
     ensures { OnOk result (out.new.items ≡ out.old.items ++ page_bytes
-        (form.request_content caller.now moment settings.now dossier.now)) }
+        (form.request_content caller.now moment settings.now dossier.now rows.now)) }
 {
     let id = dossier.shown.row.id;
-    put_told(out, id, caller, moment, settings, dossier)?;
+    put_told(out, id, caller, moment, settings, dossier, rows)?;
     put_acts(alloc, out, id, caller, settings, dossier)
 }
 
@@ -78,14 +81,15 @@ fn put_told(
     moment: Minute,
     settings: &Settings,
     dossier: &Dossier,
+    rows: &[RequestRow],
 ) -> Result<(), AllocError>
     ensures { OnOk result (out.new.items ≡ out.old.items ++ page_bytes
-        (form.request_shown id caller.now moment settings.now dossier.now)) }
+        (form.request_shown id caller.now moment settings.now dossier.now rows.now)) }
 {
     let shown = &dossier.shown;
     let buttons = may_modify(settings, shown, caller);
     put_heading(out, &shown.row)?;
-    put_facts(out, buttons, id, caller, moment, settings, dossier)?;
+    put_facts(out, buttons, id, caller, moment, settings, dossier, rows)?;
     put_history(out, dossier.entries.as_slice())
 }
 

@@ -218,6 +218,7 @@ details + .paging { margin-top: .875rem }
 .facts dt { color: var(--soft); font-size: .8125rem; line-height: 1.3 }
 .facts dd { margin: 0; font-weight: 550 }
 .facts dd > * { margin-right: .25rem }
+.facts a { overflow-wrap: anywhere }
 .facts details { display: inline-block; max-width: 100%; margin: 0; vertical-align: top }
 .facts summary { display: inline-flex; align-items: center; justify-content: center; min-height: 1.5rem; min-width: 1.5rem; padding: 0 .375rem; border: 1px solid transparent; border-radius: .375rem; color: var(--soft); font-size: .8125rem; font-weight: 400; list-style: none }
 .facts summary::-webkit-details-marker { display: none }

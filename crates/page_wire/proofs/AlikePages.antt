@@ -22,6 +22,7 @@ use Rattle.desk_model.specs.declared.refusal.Refusal.{Refusal}
 use Rattle.desk_model.specs.declared.refusal.Refusal.TheVariants.{Unavailable}
 use Rattle.desk_model.specs.declared.rows.Entry.{Entry}
 use Rattle.desk_model.specs.declared.rows.QueueRow.{QueueRow}
+use Rattle.desk_model.specs.declared.rows.RequestRow.{RequestRow}
 use Rattle.desk_core.proofs.InView.{if_shown, in_view, queue_in_view}
 use Rattle.find_core.specs.Find.{outcome_of}
 use Rattle.find_core.specs.Loads.{loads_outcome}
@@ -40,12 +41,13 @@ use Rattle.find_form.specs.declared.shown.Start.{Start}
 use Rattle.find_form.specs.declared.shown.Start.TheVariants.{First}
 use Rattle.page_routes.specs.declared.page.Page.TheVariants as page
 use Rattle.service_core.specs.Dossiers.{IsDossier}
+use Rattle.service_core.specs.LinkedRows.{linked_rows}
 use Rattle.service_core.specs.TableSteps.{ask_by}
 use Rattle.service_core.proofs.RunsAlike.{tells}
 use Rattle.page_wire.specs.Laws.{AreAlike, PagesAlike, TextsAlike, out_of_memory}
 use Rattle.page_wire.specs.Overtaken.{told_before}
 use Rattle.page_wire.specs.Replies as replies
-use Rattle.page_wire.specs.Steps.{AreLoads, Does, FindSteps, HomeSteps, IsFound, LooksAt}
+use Rattle.page_wire.specs.Steps.{AreLoads, AreRows, Does, FindSteps, HomeSteps, IsFound, LooksAt}
 use Rattle.page_wire.specs.Steps.{SearchFormSteps, SearchSteps}
 
 -- ---- the queue of a request that is shown
@@ -210,15 +212,36 @@ module _ (s : Settings) (at : ℕ) (caller : List ℕ) (one other : Desk)
       let so : refusal ≡ why = cc in
       ap Err so
 
+  -- of one dossier, whose rows are those of both views
+  rows_alike : (result : Result Dossier Refusal) (rows others : Result (List RequestRow) Refusal)
+      (bytes told : List ℕ) → AreRows s caller result rows one → AreRows s caller result others other
+      → bytes ≡ replies.request_reply s caller at result rows
+      → told ≡ replies.request_reply s caller at result others
+      → AreAlike (out_of_memory caller at) bytes told
+  rows_alike (Ok d) rows others bytes told is are so also =
+      told_alike (replies.request_reply s caller at (Ok d)) (out_of_memory caller at) rows others
+      (Err Unavailable) bytes told refl
+      (λ n m. is n ∙ ap (λ (seen : Desk). Ok (linked_rows seen d.shown.links)) same ∙ sym (are m))
+      so also
+  rows_alike (Err refusal) rows others bytes told is are so also = λ n m. so ∙ sym also
+
   requests_alike : (id : ℕ) (after last : Desk) (bytes told : List ℕ) → IsDesk one → IsDesk other
       → LooksAt s at caller id one bytes after → LooksAt s at caller id other told last
       → AreAlike (out_of_memory caller at) bytes told
-  requests_alike id after last bytes told is are (result, file, so) (results, files, also) =
-      told_alike (replies.request_reply s caller at) (out_of_memory caller at) result results
-      (Err Unavailable) bytes told refl
-      (λ n m. dossiers_by id result results is are file files
-      (shown_alike s at caller one other same id result results file files n m)
-      (history_alike s at caller one other same id result results file files n m)) so.0 also.0
+  requests_alike id after last bytes told is are (result, rows, file, names, so)
+      (results, others, files, also_names, also) =
+      λ n m.
+      let one_of = λ (e : result ≡ Err Unavailable). n (so.0
+      ∙ ap (λ (r : Result Dossier Refusal). replies.request_reply s caller at r rows) e) in
+      let other_of = λ (e : results ≡ Err Unavailable). m (also.0
+      ∙ ap (λ (r : Result Dossier Refusal). replies.request_reply s caller at r others) e) in
+      let both : results ≡ result = sym (dossiers_by id result results is are file files
+      (shown_alike s at caller one other same id result results file files one_of other_of)
+      (history_alike s at caller one other same id result results file files one_of other_of)) in
+      rows_alike result rows others bytes told names
+      (subst (λ (r : Result Dossier Refusal). AreRows s caller r others other) both also_names) so.0
+      (also.0 ∙ ap (λ (r : Result Dossier Refusal). replies.request_reply s caller at r others) both)
+      n m
 
   -- ---- a search
 

@@ -66,7 +66,7 @@ module _ (s : Settings) (at : ℕ) (old new : Desk) (bytes : List ℕ) where
   page_leaves caller (page.Queue queue) steps = find_leaves caller (replies.queue_query queue) First steps
   page_leaves caller (page.Find query start) steps = find_leaves caller query start steps
   page_leaves caller (page.New queue) steps = steps.1.laws.reading tt
-  page_leaves caller (page.Request id) steps = steps.2.1
+  page_leaves caller (page.Request id) steps = steps.4.1
   page_leaves caller page.Overdue steps = find_leaves caller replies.late_query First steps
   page_leaves caller page.Workload steps = steps.1.laws.reading tt
 

@@ -17,6 +17,7 @@ use Rattle.desk_model.specs.declared.command.Command.{Command}
 use Rattle.desk_model.specs.declared.refusal.Refusal.{Refusal}
 use Rattle.desk_model.specs.declared.refusal.Refusal.TheVariants as refusal
 use Rattle.desk_model.specs.declared.rows.Entry.{Entry}
+use Rattle.desk_model.specs.declared.rows.RequestRow.{RequestRow}
 use Rattle.desk_pages.specs.declared.unsent.Unsent.{Unsent}
 use Rattle.find_core.specs.declared.loads.QueueLoad.{QueueLoad}
 use Rattle.find_core.specs.declared.search.Findings.{Findings}
@@ -206,9 +207,11 @@ workload_stated caller at (Err r) = refused_stated caller at r
 workload_stated caller at (Ok other) = refused_stated caller at refusal.Unavailable
 
 request_stated : (s : Settings) (caller : List ℕ) (at : ℕ) (dossier : Result Dossier Refusal)
-    → IsStated (replies.request_reply s caller at dossier)
-request_stated s caller at (Ok dossier) = page_stated 200 _ refl
-request_stated s caller at (Err r) = refused_stated caller at r
+    (rows : Result (List RequestRow) Refusal)
+    → IsStated (replies.request_reply s caller at dossier rows)
+request_stated s caller at (Ok dossier) (Ok rows) = page_stated 200 _ refl
+request_stated s caller at (Ok dossier) (Err r) = refused_stated caller at r
+request_stated s caller at (Err r) rows = refused_stated caller at r
 
 so : {bytes reply : List ℕ} → bytes ≡ reply → IsStated reply → IsStated bytes
 so is made = subst IsStated (sym is) made
@@ -238,7 +241,8 @@ module _ (s : Settings) (at : ℕ) (old new : Desk) (bytes : List ℕ) where
   look_stated caller (page.Queue queue) steps = sought_stated caller (replies.queue_query queue) First steps
   look_stated caller (page.Find query start) steps = sought_stated caller query start steps
   look_stated caller (page.New queue) steps = so steps.2 (new_stated s queue caller at steps.0)
-  look_stated caller (page.Request id) steps = so steps.2.0 (request_stated s caller at steps.0)
+  look_stated caller (page.Request id) steps =
+      so steps.4.0 (request_stated s caller at steps.0 steps.1)
   look_stated caller page.Overdue steps = sought_stated caller replies.late_query First steps
   look_stated caller page.Workload steps = so steps.2 (workload_stated caller at steps.0)
 

@@ -13,6 +13,7 @@ use Rattle.desk_model.specs.declared.answer.Answer.TheVariants.{Created}
 use Rattle.desk_model.specs.declared.answer.Dossier.{Dossier}
 use Rattle.desk_model.specs.declared.command.Command.{Command}
 use Rattle.desk_model.specs.declared.refusal.Refusal.{Refusal}
+use Rattle.desk_model.specs.declared.rows.RequestRow.{RequestRow}
 use Rattle.desk_model.specs.declared.refusal.Refusal.TheVariants.{Unavailable}
 use Rattle.find_core.specs.declared.home.Home.{Home}
 use Rattle.find_core.specs.declared.home.HomeSearches.{HomeSearches}
@@ -45,7 +46,8 @@ use Rattle.page_wire.specs.Next.{first_text, follow_up_command}
 use Rattle.page_wire.specs.Overtaken.{told_before}
 use Rattle.page_wire.specs.Replies.{done_reply, home_reply, refused_reply, request_reply}
 use Rattle.page_wire.specs.Twice.{told_request}
-use Rattle.page_wire.specs.Steps.{DoesOn, Finds, HomeSteps, LookedBy, LooksAt, Tells, home_searches}
+use Rattle.page_wire.specs.Steps.{DoesOn, Finds, HomeSteps, LookedBy, LooksAt, RowsOn, Tells}
+use Rattle.page_wire.specs.Steps.{home_searches}
 
 -- ---- a command that reads leaves the desk
 
@@ -166,16 +168,24 @@ pub stays_fixed : {X E : Type 0} (s : Settings) (r : Result X E) (tables : State
 stays_fixed s (Ok x) tables = tt
 stays_fixed s (Err e) tables = stays s tables
 
--- the page of a dossier
+-- the page of a dossier, and of the rows of the requests that it names
 pub looks : {A E : Type 0} (s : Settings) (at : ℕ) (caller : List ℕ) (id : ℕ)
-    (result : Result Dossier Refusal) (r : Result (Vec ℕ A) E) (old new : State)
-    → DossierOn s at caller id result old new
-    → IfOk r (λ out. out.items ≡ request_reply s caller at result)
+    (result : Result Dossier Refusal) (rows : Result (List RequestRow) Refusal)
+    (r : Result (Vec ℕ A) E) (old mid new : State) → WasClean mid new
+    → DossierOn s at caller id result old mid → RowsOn s caller result rows mid new
+    → IfOk r (λ out. out.items ≡ request_reply s caller at result rows)
     → IfOk r (λ out. OverTables s (λ desk after. LooksAt s at caller id desk out.items after) old new)
-looks s at caller id result (Ok out) old new tells told =
-    λ desk is stand clean. let found = tells desk is stand clean in
-    (desk, ((result, found.0, (told, refl)), is), found.1)
-looks s at caller id result (Err e) old new tells told = tt
+looks s at caller id result rows (Ok out) old mid new honest tells names told =
+    λ desk is stand clean. let found = tells desk is stand (honest clean) in
+    let named = names desk is found.1 clean in
+    (desk, ((result, rows, found.0, named.0, (told, refl)), is), named.1)
+looks s at caller id result rows (Err e) old mid new honest tells names told = tt
+
+-- without a dossier no rows are told
+pub no_rows : (s : Settings) (caller : List ℕ) (refusal : Refusal)
+    (rows : Result (List RequestRow) Refusal) (tables : State)
+    → RowsOn s caller (Err refusal) rows tables tables
+no_rows s caller refusal rows tables desk is stand clean = (tt, stand)
 
 -- ---- a form
 

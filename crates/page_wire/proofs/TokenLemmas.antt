@@ -265,7 +265,8 @@ module _ (s donor : Settings) where
     look (page.Queue queue) steps = find (replies.queue_query queue) First steps
     look (page.Find query start) steps = find query start steps
     look (page.New queue) steps = (steps.0, step _ old steps.0 new steps.1, steps.2)
-    look (page.Request id) steps = (steps.0, dossier at caller id old steps.0 steps.1, steps.2)
+    look (page.Request id) steps =
+        (steps.0, steps.1, dossier at caller id old steps.0 steps.2, steps.3, steps.4)
     look page.Overdue steps = find replies.late_query First steps
     look page.Workload steps = (steps.0, step _ old steps.0 new steps.1, steps.2)
 

@@ -13,6 +13,7 @@ use Rattle.desk_model.specs.declared.answer.Dossier.{Dossier}
 use Rattle.desk_model.specs.declared.refusal.Refusal.{Refusal}
 use Rattle.desk_model.specs.declared.refusal.Refusal.TheVariants.{Unavailable}
 use Rattle.desk_model.specs.declared.rows.QueueRow.{QueueRow}
+use Rattle.desk_model.specs.declared.rows.RequestRow.{RequestRow}
 use Rattle.find_core.specs.declared.loads.QueueLoad.{QueueLoad}
 use Rattle.find_core.specs.declared.search.Findings.{Findings}
 use Rattle.find_core.specs.declared.search.Order.{Order}
@@ -176,10 +177,13 @@ workload_reply caller at (Ok (answer.Workload loads)) =
 workload_reply caller at (Err refusal) = refused caller at refusal
 workload_reply caller at (Ok other) = no_answer caller at
 
-abbrev pub request_reply : Settings → List ℕ → ℕ → Result Dossier Refusal → List ℕ
-request_reply settings caller at (Ok dossier) =
-    with_page 200 (page_bytes (request_page caller at settings dossier))
-request_reply settings caller at (Err refusal) = refused caller at refusal
+-- what is told of a request, with the rows of those that it is linked with: the first refusal is told
+abbrev pub request_reply : Settings → List ℕ → ℕ → Result Dossier Refusal
+    → Result (List RequestRow) Refusal → List ℕ
+request_reply settings caller at (Ok dossier) (Ok rows) =
+    with_page 200 (page_bytes (request_page caller at settings dossier rows))
+request_reply settings caller at (Ok dossier) (Err refusal) = refused caller at refusal
+request_reply settings caller at (Err refusal) rows = refused caller at refusal
 
 -- ---- what came of a form
 

@@ -2,16 +2,18 @@
 -- afterwards.
 use Rattle.std.specs.Prelude.{◌≡◌, ◌≢◌, ◌⊎◌, ℕ, Bool, true, false, List, [], Option, Some, None}
 use Rattle.std.specs.Prelude.{Result, Ok, Err, IfOk, OnErr, Vec}
-use Rattle.sqlite.specs.State.{State}
+use Rattle.sqlite.specs.State.{State, HasCleanDisk}
 use Rattle.sqlite.specs.Store.{Ghosts}
 use Rattle.httparse.specs.Grammar.{RequestHead}
 use Rattle.hours_core.specs.Moment.{is_due_moment}
 use Rattle.settings_core.specs.declared.settings.Settings.{Settings}
 use Rattle.desk_model.specs.Desk.{Desk}
+use Rattle.desk_model.specs.IsDesk.{IsDesk}
 use Rattle.desk_model.specs.Step.{Ask, Outcome}
 use Rattle.desk_model.specs.declared.answer.Dossier.{Dossier}
 use Rattle.desk_model.specs.declared.command.Command.TheVariants as command
 use Rattle.desk_model.specs.declared.refusal.Refusal.{Refusal}
+use Rattle.desk_model.specs.declared.rows.RequestRow.{RequestRow}
 use Rattle.desk_model.specs.declared.refusal.Refusal.TheVariants.{Unavailable}
 use Rattle.find_core.specs.Find.{outcome_of}
 use Rattle.find_core.specs.Loads.{loads_outcome}
@@ -43,9 +45,11 @@ use Rattle.page_routes.specs.Places.{is_page_path, path_in}
 use Rattle.page_routes.specs.Visits.{visit_of}
 use Rattle.service_core.specs.Dossiers.{IsDossier}
 use Rattle.service_core.specs.Leaves.{LeavesDesk}
+use Rattle.service_core.specs.LinkedRows.{AreLinked}
 use Rattle.service_core.specs.Seen.{settings_of, tables_of}
 use Rattle.service_core.specs.TableSteps.{IsStep, OverTables, ask_by}
 use Rattle.service_core.specs.declared.desk.Desk as service
+use Rattle.store_core.specs.Due.{RepresentsWithDue}
 use Rattle.wire_core.specs.Replies.{TellsFault, is_head}
 use Rattle.wire_core.specs.Runs.{Sent}
 use Rattle.wire_core.specs.Steps.{LeavesOut, MessageSteps, StaysOn}
@@ -73,11 +77,20 @@ Does settings ask reply old bytes new =
 
 -- ---- a page
 
--- a request's page is of its dossier, and the desk stays
+-- the rows of the requests that a dossier names, if there is one
+abbrev pub AreRows : Settings → List ℕ → Result Dossier Refusal → Result (List RequestRow) Refusal
+    → Desk → Type 0
+AreRows settings caller (Ok dossier) rows desk =
+    AreLinked settings caller dossier.shown.links rows desk
+AreRows settings caller (Err refusal) rows desk = Unit {0}
+
+-- a request's page is of its dossier and of the rows of those that it is linked with, and the desk
+-- stays
 abbrev pub LooksAt : Settings → ℕ → List ℕ → ℕ → Desk → List ℕ → Desk → Type 0
 LooksAt settings at caller id old bytes new =
-    (result : Result Dossier Refusal) × IsDossier settings at caller id old result
-    × Tells (replies.request_reply settings caller at result) old bytes new
+    (result : Result Dossier Refusal) × (rows : Result (List RequestRow) Refusal)
+    × IsDossier settings at caller id old result × AreRows settings caller result rows old
+    × Tells (replies.request_reply settings caller at result rows) old bytes new
 
 -- this is found, or memory or the store refused
 abbrev pub IsFound : Settings → ℕ → List ℕ → Search → ℕ → Option Place → Result Findings Refusal
@@ -218,6 +231,13 @@ IsAnswerTo https settings sent old bytes new =
 abbrev pub DoesOn : Settings → Ask → (Outcome → List ℕ) → List ℕ → State → State → Type 0
 DoesOn settings ask reply bytes =
     OverTables settings (λ desk after. Does settings ask reply desk bytes after)
+
+-- whatever desk the tables stand for, its rows are told, and it stays
+abbrev pub RowsOn : Settings → List ℕ → Result Dossier Refusal → Result (List RequestRow) Refusal
+    → State → State → Type 0
+RowsOn settings caller result rows old new =
+    (desk : Desk) → IsDesk desk → RepresentsWithDue settings desk old → HasCleanDisk new
+    → AreRows settings caller result rows desk × RepresentsWithDue settings desk new
 
 abbrev pub LookStepsOn : Settings → ℕ → List ℕ → routes.Page → List ℕ → State → State → Type 0
 LookStepsOn settings at caller page bytes =

@@ -1,5 +1,5 @@
 //! The reply to a page's reading, of what came of its commands.
-ghost use Rattle.std.specs.Prelude.{◌≡◌, IfOk};
+ghost use Rattle.std.specs.Prelude.{◌≡◌, IfOk, Ok};
 ghost use Rattle.std.specs.Option.{option_map};
 ghost use Rattle.page_core.specs.Page.{page_bytes};
 ghost use Rattle.settings_core.specs.Settings.{levels_of, lifecycles_of};
@@ -8,7 +8,7 @@ ghost use Rattle.service_core.specs.Homes.{part_of};
 ghost use Rattle.page_wire.specs.Replies as form;
 
 use crate::replies::{refused, with_page};
-use desk_core::{Answer, Dossier, QueueRow, Refusal};
+use desk_core::{Answer, Dossier, QueueRow, Refusal, RequestRow};
 use desk_pages::{find_fault_page, find_page, home_page, new_page, request_page, workload_page};
 use find_core::{Findings, Home, Order};
 use find_form::{FindFault, FindForm, Start, found_page};
@@ -16,7 +16,7 @@ use hours_core::Minute;
 use lifecycle_core::Lifecycle;
 use settings_core::{Named, Settings};
 use std::alloc::{AllocError, Global};
-use text_core::Text;
+use text_core::{Sequence, Text};
 
 /// What came of a command.
 type Outcome = Result<Answer, Refusal>;
@@ -207,20 +207,41 @@ pub(crate) fn workload_reply(
     }
 }
 
-/// The page of a request, of its dossier.
+/// The rows of the requests that one is linked with.
+type Rows = Result<Sequence<RequestRow>, Refusal>;
+
+/// The page of a request, of its dossier and of the rows of those that it is linked with.
 pub(crate) fn request_reply(
     alloc: Global,
     settings: &Settings,
     caller: &str,
     moment: Minute,
     dossier: &Result<Dossier, Refusal>,
+    rows: &Rows,
 ) -> Result<Vec<u8>, AllocError>
     ensures { IfOk result (λ out. out.items
-        ≡ form.request_reply settings.now caller.now moment dossier.now) }
+        ≡ form.request_reply settings.now caller.now moment dossier.now rows.now) }
 {
     match dossier {
-        Ok(dossier) => {
-            let page = request_page(alloc, caller, moment, settings, dossier)?;
+        Ok(dossier) => with_rows(alloc, settings, caller, moment, dossier, rows),
+        Err(refusal) => refused(alloc, caller, moment, refusal),
+    }
+}
+
+fn with_rows(
+    alloc: Global,
+    settings: &Settings,
+    caller: &str,
+    moment: Minute,
+    dossier: &Dossier,
+    rows: &Rows,
+) -> Result<Vec<u8>, AllocError>
+    ensures { IfOk result (λ out. out.items
+        ≡ form.request_reply settings.now caller.now moment (Ok dossier.now) rows.now) }
+{
+    match rows {
+        Ok(rows) => {
+            let page = request_page(alloc, caller, moment, settings, dossier, rows.as_slice())?;
             with_page(alloc, 200, page)
         }
         Err(refusal) => refused(alloc, caller, moment, refusal),

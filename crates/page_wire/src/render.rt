@@ -1,6 +1,7 @@
 //! What a page asks of the desk, and its reply.
 ghost use Rattle.std.specs.Prelude.{◌≡◌, [], IfOk};
-ghost use Rattle.service_core.specs.Seen.{settings_of};
+ghost use Rattle.store_tables.specs.Calls.{LeavesTables};
+ghost use Rattle.service_core.specs.Seen.{settings_of, tables_of};
 ghost use Rattle.find_form.specs.Form.{filled};
 ghost use Rattle.find_form.specs.Shown.{is_back};
 ghost use Rattle.find_form.specs.SearchFields.{search_of};
@@ -10,6 +11,7 @@ ghost use Rattle.page_wire.specs.Steps.{
   FindSteps,
   Looked,
   LookedBy,
+  RowsOn,
   SearchSteps,
   SearchFormSteps,
   home_searches,
@@ -18,7 +20,7 @@ ghost use Rattle.page_wire.specs.Steps.{
 use crate::pages::{
     find_fault_reply, find_reply, home_reply, new_reply, request_reply, workload_reply,
 };
-use desk_core::Command;
+use desk_core::{Command, Dossier, Refusal, RequestRow};
 use find_core::{HomeSearches, Search};
 use find_form::{
     FindFault, FindForm, PAGE_ROWS, Start, asked_by, empty_form, form_of, owned_by, search_of,
@@ -29,7 +31,7 @@ use page_routes::Page;
 use service_core::Desk;
 use std::alloc::{AllocError, Global};
 use store_core::Backend;
-use text_core::Text;
+use text_core::{Sequence, Text};
 
 /// What a page asks of the desk, and the reply with what came of it. Out of memory the desk stays.
 pub(crate) fn render_page<S: Backend>(
@@ -251,9 +253,30 @@ fn request<S: Backend>(
     ensures { Looked S.Store desk.old desk.new moment caller.now (Page.Request id) result }
 {
     let dossier = desk.dossier(alloc, moment.get(), caller, id);
-    let reply = request_reply(alloc, desk.settings(), caller, moment, &dossier);
+    let rows = rows_of(alloc, caller, &dossier, desk);
+    let reply = request_reply(alloc, desk.settings(), caller, moment, &dossier, &rows);
+    drop(rows);
     drop(dossier);
     reply
+}
+
+/// The rows of the requests that a dossier names, or none where there is no dossier.
+#[tactic(auto, using(store_tables::proofs::Spared::unread))]
+fn rows_of<S: Backend>(
+    alloc: Global,
+    caller: &str,
+    dossier: &Result<Dossier, Refusal>,
+    desk: &mut Desk<S>,
+) -> Result<Sequence<RequestRow>, Refusal>
+    ensures told { RowsOn (settings_of S.Store desk.old) caller.now dossier.now result
+        (tables_of S.Store desk.old) (tables_of S.Store desk.new) }
+    ensures kept { LeavesTables (tables_of S.Store desk.old) (tables_of S.Store desk.new) }
+    ensures same { settings_of S.Store desk.new ≡ settings_of S.Store desk.old }
+{
+    match dossier {
+        Ok(dossier) => desk.linked_rows(alloc, caller, &dossier.shown.links),
+        Err(_) => Ok(Sequence::from(Vec::new(alloc))),
+    }
 }
 
 /// The fields of the search for what is late, the most overdue first.

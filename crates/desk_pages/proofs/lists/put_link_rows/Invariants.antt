@@ -9,4 +9,4 @@ abbrev pub invariant-loop-other : goal.invariant-loop-other
 invariant-loop-other l =
     l.out.items
     ≡ l.initial.out.items
-    ++ page_bytes (flat_map (link_row l.buttons l.id l.caller l.link) (take l.other-index l.others))
+    ++ page_bytes (flat_map (link_row l.buttons l.id l.caller l.rows l.link) (take l.other-index l.others))
