@@ -1,6 +1,6 @@
 -- The row of a request that a person may show, by the desk and by the person's view of it.
 use Rattle.std.proofs.Common.{◌≡◌, ◌∙◌, ℕ, true, false, cond, List, [], Option, Some, None, filter}
-use Rattle.std.proofs.Common.{is_some, option_map, refl, ap, sym}
+use Rattle.std.proofs.Common.{is_some, option_map, option_to_list, refl, ap, sym}
 use Rattle.settings_core.specs.declared.settings.Settings.{Settings}
 use Rattle.desk_model.specs.Desk.{Desk, Request, request_at}
 use Rattle.desk_model.specs.Facts.{seen_request}
@@ -11,6 +11,7 @@ use Rattle.desk_model.specs.declared.rows.RequestRow.{RequestRow}
 use Rattle.desk_core.proofs.InView.{if_shown, in_view, is_shown_in}
 use Rattle.store_tables.specs.Contents.{request_rows}
 use Rattle.store_tables.specs.Contents.Request.{is_numbered}
+use Rattle.store_core.proofs.FactsLemmas.{found_row}
 use Rattle.store_core.proofs.FactsLemmasOfDesk.{no_request}
 use Rattle.store_core.specs.Found.{request_row_at}
 
