@@ -25,7 +25,7 @@ FOCUS = ("(e => e === document.body ? '' : e.getAttribute('href') || e.name || e
 OUTLINED = """(e => [e, ...(e.labels ?? [])].some(it => { const s = getComputedStyle(it);
  return s.outlineStyle !== 'none' && parseFloat(s.outlineWidth) >= 2 }))(document.activeElement)"""
 # the facts that tell local time: their names, the moment in UTC, what is told
-BESIDE = """[...document.querySelectorAll('.facts small')].map(it =>
+BESIDE = """[...document.querySelectorAll('.facts time + small')].map(it =>
  [it.closest('div').firstChild.textContent, it.previousElementSibling.dateTime, it.textContent])"""
 
 

@@ -195,6 +195,8 @@ def filed(visitor, text):
     yield "a refused request", visitor.post(f"/desk/queues/{queue}/new", {
         "subject": text, "requestors": text, "text": text}, "dora")
     yield "a refused text", visitor.post(f"/desk/queues/{queue}/new", {
+        "subject": text, "requestors": "ann", "text": text + "\0"}, "dora")
+    yield "a request that its filer may not see", visitor.post(f"/desk/queues/{queue}/new", {
         "subject": text, "requestors": "ann", "text": text}, "lin")
     yield "a refused status", visitor.post(f"{at}/reply", {"text": text, "status": text}, "dora")
     yield "a refused reply with a status", visitor.post(
@@ -202,6 +204,9 @@ def filed(visitor, text):
 
 
 filed.count = 0
+
+# the pages that don't show the text
+UNTOLD = ("a refused reply", "a refused reply with a status", "a request that its filer may not see")
 
 
 def same():
@@ -213,7 +218,7 @@ def same():
         for text in HOSTILE:
             for (what, tree), (_, reply) in zip(plain, filed(visitor, text)):
                 holds(f"{what} with {text!r} has other elements", markup.tree(reply.text) == tree)
-                if what not in ("a refused reply", "a refused reply with a status"):
+                if what not in UNTOLD:
                     found += 1
                     holds(f"{what} doesn't show {text!r}",
                           any(text in it for it in markup.texts(reply.text)))
