@@ -52,6 +52,18 @@ def numbered(ask, numbers):
     return Ask(ask.at, ask.way, ask.by, ask.name, words, ask.then, ask.key)
 
 
+def apart(asks):
+    """Those that change no request that one before them changes. A filing that was pressed twice has one number,
+    and the plan has two."""
+    changed = set()
+    for ask in asks:
+        number = None if ask.reads else ask.request()
+        if number not in changed:
+            yield ask
+        if number is not None:
+            changed.add(number)
+
+
 def commands(ask):
     """The commands that it makes of the desk, in their order."""
     yield ask.name, words_of(ask)

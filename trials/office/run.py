@@ -7,7 +7,7 @@ import time
 from concurrent.futures import ThreadPoolExecutor
 
 from office import expected, faults, kept, seldom, strange, tabs
-from office.asks import PAGES, Ask, form, form_page, numbered, spelled
+from office.asks import PAGES, Ask, apart, form, form_page, numbered, spelled
 from office.browser import Browser, hidden_of
 from office.crowd import Crowd
 from office.differs import Differs
@@ -227,7 +227,7 @@ class Trial:
         a whole message in a quarter of a second: whoever looked looks again, and what was done of the others'
         commands is found in the tables."""
         self.up()
-        asks = [numbered(Ask.of(it), self.numbers) for it in asks]
+        asks = list(apart(numbered(Ask.of(it), self.numbers) for it in asks))
         self.sign_in(asks)
         pairs = list(zip(asks, self.at_once(asks)))
         for place, (ask, (answer, seconds)) in enumerate(pairs):
@@ -258,7 +258,7 @@ class Trial:
     # ---- what goes wrong, and the nights
 
     def do_kill(self, at, asks, after):
-        faults.kill(self, [numbered(Ask.of(it), self.numbers) for it in asks], after)
+        faults.kill(self, list(apart(numbered(Ask.of(it), self.numbers) for it in asks)), after)
 
     def do_full(self, at, asks, pages):
         faults.full(self, [numbered(Ask.of(it), self.numbers) for it in asks], pages)
