@@ -104,7 +104,7 @@ def hostile():
         for text in ["x", *HOSTILE]:
             queue = f"t{filed.count}"
             made = list(filed(visitor, text))
-            expect(f"{text!r}: the pages made", len(made), 8)
+            expect(f"{text!r}: the pages made", len(made), 9)
             at = next(it for it in re.findall(r"/desk/requests/\d+", made[0][1].text))
             for place in (f"/desk/queues/{queue}", at):
                 browser.open(visitor.origin + place)
