@@ -53,33 +53,63 @@ module _ {K X : Type 0} (row : K → Row) (value : K → X) where
     | inr (inr more) ↦ record { now = p ∷ q ∷ ps; is = rw more; same = IsPermutation-refl _ }
   ]
 
+-- some values, each in a row of its own, in no order that matters; the rows need be no table
+pub record Spells {K X : Type 0} (row : K → Row) (value : K → X) (xs : List X) (rows : List Row) :
+    Type 0 where
+  pub kept : List K
+  pub spelt : rows ≡ map row kept
+  pub same : IsPermutation (map value kept) xs
+
 module _ {K X : Type 0} {row : K → Row} {value : K → X} {xs : List X} {rows : List Row}
-    (h : Holds row value xs rows)
+    (h : Spells row value xs rows)
   where
-    pub inserted : (k : K) → is_taken rows (row k) ≡ false
-        → Holds row value (value k ∷ xs) (put_row (row k) rows)
-    inserted k free =
+    pub spells_more : (k : K) → is_taken rows (row k) ≡ false
+        → Spells row value (value k ∷ xs) (put_row (row k) rows)
+    spells_more k free =
         let it = put row value k h.kept (rw h.spelt at free) in record {
           kept = it.now;
           spelt = ap (put_row (row k)) h.spelt ∙ it.is;
-          table = IsTable-put_row (row k) rows h.table;
           same = IsPermutation-trans _ _ _ (IsPermutation-sym _ _
               (IsPermutation-map value _ _ it.same)) (IsPermutation-cons (value k) _ _ h.same);
         }
 
     -- the rows that a test passes are those of the values that it passes
-    pub found : (test : Row → Bool) (p : X → Bool) → ((k : K) → test (row k) ≡ p (value k))
-        → Holds row value (filter p xs) (filter test rows)
-    found test p is =
+    pub spells_part : (test : Row → Bool) (p : X → Bool) → ((k : K) → test (row k) ≡ p (value k))
+        → Spells row value (filter p xs) (filter test rows)
+    spells_part test p is =
         let kept = filter (λ (k : K). test (row k)) h.kept in
         record {
           kept = kept;
           spelt = ap (filter test) h.spelt ∙ filter-map test row h.kept;
-          table = ascending-filter _ test rows h.table;
           same = rw (ap (map value) (filter_same (λ (k : K). test (row k)) (λ (k : K). p (value k))
               h.kept (all_of (λ (k : K). test (row k) ≡ p (value k)) is h.kept))
               ∙ sym (filter-map p value h.kept)) (IsPermutation-filter p _ _ h.same);
         }
+
+    -- the same values in another order
+    pub spells_again : {ys : List X} → IsPermutation xs ys → Spells row value ys rows
+    spells_again {ys} same =
+        search (h.spelt, IsPermutation-trans (map value h.kept) xs ys h.same same)
+
+    pub holds : IsTable rows → Holds row value xs rows
+    holds table = search (h.spelt, table, h.same)
+
+pub spells : {K X : Type 0} {row : K → Row} {value : K → X} {xs : List X} {rows : List Row}
+    → Holds row value xs rows → Spells row value xs rows
+spells h = search (h.spelt, h.same)
+
+module _ {K X : Type 0} {row : K → Row} {value : K → X} {xs : List X} {rows : List Row}
+    (h : Holds row value xs rows)
+  where
+    pub inserted : (k : K) → is_taken rows (row k) ≡ false
+        → Holds row value (value k ∷ xs) (put_row (row k) rows)
+    inserted k free = holds (spells_more (spells h) k free) (IsTable-put_row (row k) rows h.table)
+
+    -- the rows that a test passes are those of the values that it passes
+    pub found : (test : Row → Bool) (p : X → Bool) → ((k : K) → test (row k) ≡ p (value k))
+        → Holds row value (filter p xs) (filter test rows)
+    found test p is =
+        holds (spells_part (spells h) test p is) (ascending-filter _ test rows h.table)
 
     -- what one column shows of each value
     pub viewed : {Y : Type 0} (view : X → Y) → Holds row (λ k. view (value k)) (map view xs) rows
@@ -89,8 +119,7 @@ module _ {K X : Type 0} {row : K → Row} {value : K → X} {xs : List X} {rows 
 
     -- the same values in another order
     pub reordered : {ys : List X} → IsPermutation xs ys → Holds row value ys rows
-    reordered {ys} same =
-        search (h.spelt, h.table, IsPermutation-trans (map value h.kept) xs ys h.same same)
+    reordered same = holds (spells_again (spells h) same) h.table
 
 -- where one row passes a test, taking its rowid out leaves the rows that do not pass
 module _ (test : Row → Bool) (rows : List Row) (it : Row) (i : ℤ) (is : rowid it ≡ Int i)

@@ -3,6 +3,7 @@ pub mod BlankLemmas
 pub mod ChangeLemmas
 pub mod Contents
 pub mod CreateLemmas
+pub mod DatedLemmas
 pub mod DueLemmas
 pub mod FoundLemmas
 pub mod KeptLemmas
@@ -13,6 +14,7 @@ pub mod ReadLemmas
 pub mod ReadOn
 pub mod ReadingLemmas
 pub mod RowLemmas
+pub mod SchemaLemmas
 pub mod ShutLemmas
 pub mod Spared
 pub mod StandLemmas
@@ -20,6 +22,7 @@ pub mod StepLemmas
 pub mod TableLemmas
 pub mod TestLemmas
 pub mod TextLemmas
+pub mod TurnLemmas
 pub mod ValueLemmas
 pub mod VersionLemmas
 pub mod WriteLemmas

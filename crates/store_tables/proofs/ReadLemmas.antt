@@ -21,7 +21,7 @@ use Rattle.store_tables.specs.Query.{last_of, reads}
 use Rattle.store_tables.specs.Values.{count_value}
 use Rattle.store_tables.specs.Picked.{passes, shows, Picks, Shows, Lists, AreOrdered, PicksLast}
 use Rattle.store_tables.specs.Picked.{AreFirst, ShowsGreatest}
-use Rattle.store_tables.proofs.KeptLemmas.{found, unmapped_one}
+use Rattle.store_tables.proofs.KeptLemmas.{Spells, found, spells_part, unmapped_one}
 use Rattle.std.proofs.lemmas.Map.Keys.{ge_from_not_lt}
 use Rattle.std.proofs.lemmas.Cmp.{back_total, nat_cmp_total}
 use Rattle.std.proofs.lemmas.List.Elements.{recursion_from_All}
@@ -209,10 +209,10 @@ module _ {K X : Type 0} {row : K → Row} {value : K → X} {tree : ℕ} {test :
 -- ---- what passes of a table, by the rows that pass
 
 module _ {K X : Type 0} {row : K → Row} {value : K → X} {xs : List X} {rows : List Row}
-    (holds : Holds row value xs rows) (test : Row → Bool) (p : X → Bool)
+    (it_spells : Spells row value xs rows) (test : Row → Bool) (p : X → Bool)
     (is : (k : K) → test (row k) ≡ p (value k)) where
-  abbrev passing : Holds row value (filter p xs) (filter test rows)
-  passing = found holds test p is
+  abbrev passing : Spells row value (filter p xs) (filter test rows)
+  passing = spells_part it_spells test p is
 
   -- where one row passes, it is that of the one value that does
   pub one_held : (it : Row) → filter test rows ≡ it ∷ []

@@ -6,22 +6,33 @@ use Rattle.std.proofs.lemmas.List.{take_all}
 use Rattle.sqlite.specs.Order.{Row}
 use Rattle.sqlite.specs.State.{State, Executes}
 use Rattle.sqlite.specs.Change.{KeepsRows}
+use Rattle.sqlite_resolve.specs.Compile.{first}
 use Rattle.store_tables.specs.Calls.{StatementChanges, QueryInTransaction, Makes, StatementRuns, WasClean}
 use Rattle.store_tables.specs.Contents.{Contents, Tables, desk_schema}
+use Rattle.store_tables.specs.Dated.{MakesDated}
 use Rattle.store_tables.specs.Stands.{InTransaction, HasTables, KeepsCommitted, OnlyStaysChange, HasRun, RanOnAny}
 use Rattle.store_tables.specs.Contents.{first_schema}
 use Rattle.store_tables.specs.declared.fault.StoreFault.{StoreFault}
 use Rattle.store_tables.proofs.Lasting.{on}
+use Rattle.store_tables.proofs.SchemaLemmas.{IsUpdate, one_keeps, update_keeps}
+use Rattle.store_tables.proofs.TextLemmas.{GivesNone}
+use Rattle.store_tables.proofs.TurnLemmas.{Turns}
 use Rattle.store_tables.proofs.StandLemmas.{fold_more}
 
 -- a statement that ran, whatever is known of how
 does_ran : {X : Type 0} {P : X → Type 0} {old new : State} {change : Contents → Contents}
     (r : Result X StoreFault) → StatementRuns P old new r
     → ((x : X) → P x → IsTrue old.is_open × (new.in_transaction ≡ true)
-    × ((now : Contents) → Tables now old.now → Tables (change now) new.now)) → StatementChanges change old new r
+    × (new.now.schema ≡ old.now.schema)
+    × (old.now.schema ≡ desk_schema → Turns change old.now new.now)) → StatementChanges change old new r
 does_ran {old = old} {new} {change} (Ok x) runs so =
-    let makes : Makes change old new (Ok x) = λ now holds c o. let it = so x (runs.ran c) in
-    (it.2 now (holds (runs.clean c) it.0).0, it.1) in
+    let makes : Makes change old new (Ok x) = λ now holds c o.
+    let it = so x (runs.ran c) in
+    let t = (holds (runs.clean c) it.0).0 in ((it.3 t.schema).makes now t, it.1) in
+    let shows : MakesDated change old new (Ok x) = λ now shown c o.
+    let it = so x (runs.ran c) in
+    let s = (shown (runs.clean c) it.0).0 in
+    (record { rows = λ still. ((it.3 (sym it.2 ∙ still)).shows now s).rows still }, it.1) in
     let goes_on : InTransaction old → InTransaction new = λ goes c o. (so x (runs.ran c)).1 in assumption
 does_ran (Err e) runs so = search rules
 
@@ -29,19 +40,28 @@ does_ran (Err e) runs so = search rules
 pub does_one : {X : Type 0} {r : Result X StoreFault} {sql : List ℕ} {params : Row}
     {old new : State} {change : Contents → Contents}
     → StatementRuns (λ done. HasRun sql params old new 1) old new r
-    → ((now : Contents) → Tables now old.now → Executes sql params old new (Ok 1)
-    → Tables (change now) new.now) → StatementChanges change old new r
-does_one {r = r} runs makes = does_ran r runs
-    (λ done it. (it.shown.was_open, it.shown.mode, λ now t. makes now t it.runs))
+    → (old.now.schema ≡ desk_schema → Executes sql params old new (Ok 1)
+    → Turns change old.now new.now) → StatementChanges change old new r
+does_one {r = r} {sql} {params} {old} {new} runs makes = does_ran r runs (λ done it. (
+  it.shown.was_open,
+  it.shown.mode,
+  one_keeps sql params old new it.runs,
+  λ has. makes has it.runs,
+))
 
--- a statement that changed one row or none
+-- an UPDATE that changed one row or none
 pub does_any : {X : Type 0} {r : Result X StoreFault} {sql : List ℕ} {params : Row}
-    {old new : State} {change : Contents → Contents}
+    {old new : State} {change : Contents → Contents} → IsUpdate (first sql) → GivesNone (first sql)
     → StatementRuns (λ done. RanOnAny sql params old new) old new r
-    → ((now : Contents) (count : ℕ) → count < 2 → Tables now old.now
-    → Executes sql params old new (Ok count) → Tables (change now) new.now) → StatementChanges change old new r
-does_any {r = r} runs makes = does_ran r runs (λ done it.
-    (it.2.shown.was_open, it.2.shown.mode, λ now t. makes now it.0 it.1 t it.2.runs))
+    → (old.now.schema ≡ desk_schema → (count : ℕ) → count < 2
+    → Executes sql params old new (Ok count) → Turns change old.now new.now)
+    → StatementChanges change old new r
+does_any {r = r} {sql} {params} {old} {new} is none runs makes = does_ran r runs (λ done it. (
+  it.2.shown.was_open,
+  it.2.shown.mode,
+  update_keeps sql params old new it.0 is none it.2.runs,
+  λ has. makes has it.0 it.1 it.2.runs,
+))
 
 pub kept_on : (a b c : State) → KeepsCommitted a b → KeepsCommitted b c → KeepsCommitted a c
 kept_on a b c first second clean live =
@@ -91,6 +111,7 @@ pub does_both : {X Y : Type 0} {first second : Contents → Contents} {a b c : S
     → StatementChanges (λ (d : Contents). second (first d)) a c r
 does_both {first = first} {a = a} {b = b} {c = c} did next = record {
   makes = λ now holds. next.makes (first now) (did.makes now holds);
+  shows = λ now shown. next.shows (first now) (did.shows now shown);
   keeps = kept_on a b c did.keeps next.keeps;
   goes_on = λ goes. next.goes_on (did.goes_on goes);
   clean = λ clean. did.clean (next.clean clean);

@@ -17,7 +17,7 @@ use Rattle.store_tables.specs.Kept.{Holds}
 use Rattle.store_tables.specs.Picked.{passes, shows}
 use Rattle.store_tables.specs.Contents.{Contents, Tables}
 use Rattle.store_tables.proofs.DueLemmas.{AreEach, each_moved, one_moved, passes_one}
-use Rattle.store_tables.proofs.KeptLemmas.{inserted, removed, reordered}
+use Rattle.store_tables.proofs.KeptLemmas.{inserted, removed, reordered, spells}
 use Rattle.store_tables.proofs.ReadLemmas.{one_held}
 use Rattle.store_tables.proofs.Contents.{Changed, Kept, tables_now}
 use Rattle.store_tables.proofs.ChangeLemmas.{Added, Drops, Moves, cast_null, cast_int, Sets}
@@ -28,7 +28,7 @@ also P x xs one others y (inl same) = subst P (sym same) one
 also P x xs one others y (inr later) = others y later
 
 -- what a test leaves
-abbrev rest : {K V : Type 0} → TableOf K V → (V → Bool) → Contents → List V
+abbrev pub rest : {K V : Type 0} → TableOf K V → (V → Bool) → Contents → List V
 rest n p d = filter (λ x. not (p x)) (n.list d)
 
 valid_rest : {K V : Type 0} (n : TableOf K V) (p : V → Bool) {d : Contents} {db : Database}
@@ -60,7 +60,7 @@ module _ {K V : Type 0} (n : TableOf K V) {d : Contents} {old : Database} (t : T
             × (id_in (rowid (shows project params it)) ≡ id k)
             × Holds n.row n.value (rest n p d) (without_rowid (id k) (old.trees n.tree))
         left it one =
-            let k = one_held (n.kept d old t) (passes test params) p tests it one in
+            let k = one_held (spells (n.kept d old t)) (passes test params) p tests it one in
             let shows_id = ap (λ row. id_in (rowid (shows project params row))) k.1 ∙ shown k.0 in (
               k.0,
               k.1,

@@ -51,6 +51,7 @@ use Rattle.store_tables.proofs.StandLemmas.{shown_open}
 use Rattle.store_tables.proofs.ReadingLemmas.{every, if_err, if_ok, table_rows}
 use Rattle.store_tables.proofs.ChangeLemmas.{adds, apart, cast_int, cast_null, sets}
 use Rattle.store_tables.proofs.Contents.{tables_now}
+use Rattle.store_tables.proofs.TurnLemmas.{Turns, turns_beside}
 use Rattle.store_tables.proofs.WriteLemmas.{inserting}
 
 add_version_is : Changes add_version_text (Insert 0 (Values add_version_terms 3))
@@ -104,12 +105,14 @@ fills c old new count ran clean lacks now o =
 gone : (n : ℕ) → without_rowid (pos 1) (version_row n ∷ []) ≡ []
 gone n = rw (tied_itself value_cmp_total (Int (pos 1)))
 
-pub sets_version : (c : Contents) (old new : State) → Tables c old.now
-    → Executes set_version_text [] old new (Ok 1) → Tables (set_version c 2) new.now
-sets_version c old new t h =
+pub sets_version : (old new : State) → old.now.schema ≡ desk_schema
+    → Executes set_version_text [] old new (Ok 1)
+    → Turns (λ c. set_version c 2) old.now new.now
+sets_version old new has h =
     let db = old.now.trees in
-    let s = sets set_version_text [] 0 [] set_version_terms meta old new refl refl t.schema
+    let s = sets set_version_text [] 0 [] set_version_terms meta old new refl refl has
     set_version_is (λ a b. refl) h in
+    turns_beside has (λ c. refl) meta.tree refl (s.goes _ _ refl refl).others (λ c t.
     let it : s.it ≡ version_row c.version =
     let e = sym (ap (filter (passes [] [])) t.meta) ∙ s.one in cc in
     let to = s.goes (pos 1) (version_row 2)
@@ -120,7 +123,7 @@ sets_version c old new t h =
     ∙ gone c.version) in
     tables_now 0 (set_version c 2) c old.now new.now t s.schema to.others
     (let now : (new.now.trees 0 ≡ version_row 2 ∷ []) × (2 < 2 ^ 32) = (rows, omega arith) in
-    assumption)
+    assumption))
 
 -- ---- the version that is read
 

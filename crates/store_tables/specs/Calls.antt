@@ -16,6 +16,7 @@ use Rattle.sqlite_rules.specs.Lists.{Has}
 use Rattle.desk_model.specs.Desk.{Desk}
 use Rattle.desk_model.specs.IsDesk.{IsDesk}
 use Rattle.store_tables.specs.Contents.{Contents, desk_schema, HasBadRow}
+use Rattle.store_tables.specs.Dated.{MakesDated}
 use Rattle.store_tables.specs.Stands.{InTransaction, HasTables, HoldsNow, KeepsCommitted, HoldCommitted, Represents}
 use Rattle.store_tables.specs.declared.fault.StoreFault.{StoreFault}
 use Rattle.store_tables.specs.declared.fault.StoreFault.TheVariants.{Mismatch, Refused}
@@ -131,12 +132,14 @@ pub record StatementRuns {X : Type 0} (P : X → Type 0) (old new : State) (resu
   pub refused : IfErr result (λ e. e ≡ Refused)
 
 -- What a statement or a row of them does in a transaction: of whatever the tables hold it makes
--- `change`. Whatever rows they have, the last commit stays, and the transaction goes on where
--- nothing is refused. A disk that is clean after it was clean before, and the connection lasts. A
--- fault is that the store or memory refused it.
+-- `change`, and of whatever requests they show, whatever rows their other tables have. Whatever rows
+-- they have, the last commit stays, and the transaction goes on where nothing is refused. A disk
+-- that is clean after it was clean before, and the connection lasts. A fault is that the store or
+-- memory refused it.
 pub record StatementChanges {X : Type 0} (change : Contents → Contents) (old new : State)
     (result : Result X StoreFault) : Type 0 where
   pub makes : Makes change old new result
+  pub shows : MakesDated change old new result
   pub keeps : KeepsCommitted old new
   pub goes_on : InTransaction old → OnOk result (InTransaction new)
   pub clean : WasClean old new

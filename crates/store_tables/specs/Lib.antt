@@ -1,5 +1,6 @@
 pub mod Calls
 pub mod Contents
+pub mod Dated
 pub mod Fault
 pub mod Kept
 pub mod Making

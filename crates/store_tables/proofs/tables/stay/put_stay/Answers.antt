@@ -9,7 +9,7 @@ use Rattle.store_tables.specs.Contents.Link.{link}
 use Rattle.store_tables.specs.Contents.Queue.{queue}
 use Rattle.store_tables.specs.Contents.Request.{request}
 use Rattle.store_tables.specs.Contents.Watcher.{watcher}
-use Rattle.store_tables.specs.Contents.{Contents, Tables, add_stay, desk_schema, first_schema}
+use Rattle.store_tables.specs.Contents.{add_stay, desk_schema, first_schema}
 use Rattle.store_tables.proofs.ChangeLemmas.{Added, adds, cast_null, cast_int, apart}
 use Rattle.sqlite_tied.specs.Compute.{everything}
 use Rattle.sqlite.specs.Source.TheVariants.{Values}
@@ -19,7 +19,8 @@ use Rattle.sqlite.specs.Listing.{understood}
 use Rattle.store_tables.proofs.Meaning.{Changes}
 use Rattle.sqlite.specs.Change.{KeepsRows}
 use Rattle.store_tables.specs.Kept.{filed}
-use Rattle.store_tables.proofs.TableLemmas.{cast_moment, puts}
+use Rattle.store_tables.proofs.TableLemmas.{cast_moment}
+use Rattle.store_tables.proofs.TurnLemmas.{Turns, puts_beside}
 use Rattle.store_tables.proofs.Contents.Stay.{stay_table}
 use Rattle.store_tables.proofs.tables.stay.put_stay.Goals as goal
 
@@ -48,12 +49,12 @@ stay_beside s old new has h =
     let entries = m.1.1.1.1.1.0 (apart entry.tree stay.tree refl) in
     assumption
 
-adds_stay : (d : Contents) (s : StayRow) (old new : State) (count : ℕ)
-    → IsStayRow (stay_columns s) → Tables d old.now
-    → Executes add_stay_text (stay_columns s) old new (Ok count) → Tables (add_stay d s) new.now
-adds_stay d s old new count row t h =
-    puts stay_table t (add_stay d s) (next_rowid (old.now.trees stay.tree), s) row
-    (stay_added s old new count t.schema h) (λ now. assumption)
+adds_stay : (s : StayRow) (old new : State) → IsStayRow (stay_columns s)
+    → old.now.schema ≡ desk_schema → Executes add_stay_text (stay_columns s) old new (Ok 1)
+    → Turns (λ d. add_stay d s) old.now new.now
+adds_stay s old new row has h =
+    puts_beside has (λ d. refl) stay_table refl (next_rowid (old.now.trees stay.tree), s) row
+    (stay_added s old new 1 has h) (λ d now. assumption)
 
 pub returns : goal.returns
 returns g c =
@@ -68,6 +69,6 @@ returns g c =
     record {
       same_reference = search rules;
       put = does_one runs
-          (λ now. adds_stay now row _ _ 1 (let wide : 4 < 5 = omega arith in assumption));
+          (adds_stay row _ _ (let wide : 4 < 5 = omega arith in assumption));
       beside = ran_beside _ runs (stay_beside row _ _);
     }
