@@ -1,4 +1,5 @@
 pub mod AheadLemmas
+pub mod DatedWritten
 pub mod FactsLemmas
 pub mod FactsLemmasOfDesk
 pub mod FrontLemmas

@@ -68,17 +68,20 @@ closed_length (s ∷ t ∷ ss) until = omega (arith, closed_length (t ∷ ss) un
 
 -- ---- the rows of a change leave the stays
 
-by_each : {X : Type 0} (step : Contents → X → Contents)
-    → ((c : Contents) (x : X) → (step c x).stays ≡ c.stays) → (xs : List X) (c : Contents)
-    → (fold step c xs).stays ≡ c.stays
-by_each step leaves [] c = refl
-by_each step leaves (x ∷ xs) c = by_each step leaves xs (step c x) ∙ leaves c x
+-- what each step leaves of a part of them, all of them leave
+pub by_each : {X Y : Type 0} (part : Contents → Y) (step : Contents → X → Contents)
+    → ((c : Contents) (x : X) → part (step c x) ≡ part c) → (xs : List X) (c : Contents)
+    → part (fold step c xs) ≡ part c
+by_each part step leaves [] c = refl
+by_each part step leaves (x ∷ xs) c =
+    by_each part step leaves xs (step c x) ∙ leaves c x
 
 pub stays_left : (change : Change) (c : Contents) → (rows_written change c).stays ≡ c.stays
 stays_left change c =
-    let noted = by_each add_entry (λ c e. refl) in
-    let taken = by_each drop_watcher (λ c w. refl) in
-    grind (arith, noted, taken, by_each add_watcher (λ c w. refl))
+    let of_stays = λ (d : Contents). d.stays in
+    let noted = by_each of_stays add_entry (λ c e. refl) in
+    let taken = by_each of_stays drop_watcher (λ c w. refl) in
+    grind (arith, noted, taken, by_each of_stays add_watcher (λ c w. refl))
 
 -- ---- on which request a stay begins
 

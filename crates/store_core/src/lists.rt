@@ -1,5 +1,5 @@
 //! The lists of a store, each in the order of its key.
-ghost use Rattle.std.specs.Prelude.{◌≡◌, filter, IsPermutation, map};
+ghost use Rattle.std.specs.Prelude.{◌≡◌, filter, IfOk, IsPermutation, map};
 ghost use Rattle.desk_model.specs.Facts.{stays_at};
 ghost use Rattle.store_tables.specs.Calls.{LeavesTables, Tells};
 ghost use Rattle.store_tables.specs.Contents.{actors, history_at, request_rows, watchers};
@@ -7,6 +7,7 @@ ghost use Rattle.store_tables.specs.Contents.Link.{ends_at, starts_at};
 ghost use Rattle.store_tables.specs.Contents.Request.{is_filed_in};
 ghost use Rattle.store_tables.specs.Contents.Stay.{request_stay, stays};
 ghost use Rattle.store_tables.specs.Contents.Watcher.{is_of_person};
+ghost use Rattle.store_tables.specs.Dated.{ShowDatedCommitted};
 ghost use Rattle.store_tables.specs.Readings.{MismatchesInDated, MismatchesInEntries};
 ghost use Rattle.store_tables.specs.Readings.{MismatchesInLinks, MismatchesInRequests};
 ghost use Rattle.store_tables.specs.Readings.{MismatchesInStays, MismatchesInWatchers};
@@ -67,9 +68,10 @@ impl<S: Alter> Store<S> {
         request::requests_of(alloc, &mut self.tables, queue)
     }
 
-    /// The requests, in the order of their numbers, each with the due moment that the tables keep.
-    /// `Mismatch` where a row is no request or its due moment is neither a minute nor absent,
-    /// `Refused` where the store or memory refuses it. The tables stay as they are.
+    /// The requests, in the order of their numbers, each with the due moment that the tables keep:
+    /// all that they show, whatever rows the other tables have. `Mismatch` where a row is no request
+    /// or its due moment is neither a minute nor absent, `Refused` where the store or memory refuses
+    /// it. The tables stay as they are.
     pub fn dated_requests(
         &mut self,
         alloc: Global,
@@ -78,6 +80,8 @@ impl<S: Alter> Store<S> {
             (state_of S.Store self.old) (state_of S.Store self.new) result }
         ensures tested { TestsDated
             (state_of S.Store self.old) (state_of S.Store self.new) result }
+        ensures shown { IfOk result (λ xs.
+            ShowDatedCommitted xs.items (state_of S.Store self.new)) }
         ensures kept { LeavesTables (state_of S.Store self.old) (state_of S.Store self.new) }
     {
         dated::dated_requests(alloc, &mut self.tables)

@@ -1,9 +1,11 @@
 -- The requests that tables show, where one is put in or gives way, or another table changes.
 use Rattle.std.proofs.Common.{◌≡◌, ◌≢◌, ◌∙◌, ◌==◌, ℕ, ℤ, Bool, List, [], ◌∷◌, IsPermutation, ap}
 use Rattle.std.proofs.Common.{arith, drop, eqb-true, false, filter, is_eq, length, map, not, pos}
-use Rattle.std.proofs.Common.{refl, subst, sym, true}
+use Rattle.std.proofs.Common.{ap₂, refl, subst, sym, true}
 use Rattle.std.proofs.lemmas.Bool.Decides.{nat_tests}
-use Rattle.std.proofs.lemmas.List.Sorted.{IsPermutation-sym}
+use Rattle.std.proofs.lemmas.List.Sorted.{IsPermutation-refl, IsPermutation-sym, IsPermutation-trans}
+use Rattle.std.specs.List.{AllZip}
+use Rattle.sqlite.specs.State.{Shown, State}
 use Rattle.sqlite.specs.Cast.{cast_row}
 use Rattle.sqlite.specs.Effect.{Database}
 use Rattle.sqlite.specs.Order.{Row, column}
@@ -14,15 +16,21 @@ use Rattle.sqlite.specs.Tree.{rowid}
 use Rattle.sqlite_trees.proofs.ListLemmas.{map-map}
 use Rattle.sqlite_trees.specs.Tree.{has_rowid}
 use Rattle.sqlite_tied.proofs.RuleLemmas.{and_true}
-use Rattle.store_tables.specs.Contents.{desk_schema}
+use Rattle.store_tables.specs.Contents.{Contents, Tables, desk_schema}
 use Rattle.store_tables.specs.Contents.Request.{Dated, dated_row, dated_shown, dated_shown_terms}
 use Rattle.store_tables.specs.Contents.Request.{ReadsDated, has_number, numbered_test, request}
 use Rattle.store_tables.specs.Dated.{ShowsDated}
 use Rattle.store_tables.specs.Picked.{Shows, passes, shows}
+use Rattle.store_tables.specs.Query.{reads}
 use Rattle.store_tables.specs.Values.{count_value}
 use Rattle.store_tables.proofs.ChangeLemmas.{Added, Moves, Sets, apart}
 use Rattle.store_tables.proofs.DueLemmas.{none_moved, one_moved, passes_one}
-use Rattle.store_tables.proofs.KeptLemmas.{Spells, spells_again, spells_more, spells_part}
+use Rattle.store_tables.proofs.KeptLemmas.{Spells, spells_again, spells_more, spells_moved}
+use Rattle.store_tables.proofs.KeptLemmas.{spells_part}
+use Rattle.store_tables.proofs.Contents.Request.{dated_back}
+use Rattle.store_tables.proofs.Meaning.{Selects}
+use Rattle.store_tables.proofs.PickedLemmas.{picked_by}
+use Rattle.store_tables.proofs.ReadingLemmas.{every}
 use Rattle.store_tables.proofs.ReadLemmas.{none_held, one_held}
 use Rattle.store_tables.proofs.TestLemmas.{equal_numbers, order_numbers}
 
@@ -37,6 +45,10 @@ row_at k = k.row
 
 abbrev dated_at : Showing → Dated
 dated_at k = k.dated
+
+-- as it is put in
+abbrev dated_put : Dated → Showing
+dated_put x = record { row = dated_row x; dated = x; is = refl }
 
 abbrev pub SpellsDated : List Dated → List Row → Type 0
 SpellsDated xs rows = Spells row_at dated_at xs rows
@@ -107,6 +119,71 @@ tests_number : (id : ℕ) (params : Row) (k : Showing)
     → passes numbered_test (count_value id ∷ params) k.row ≡ has_number id k.dated
 tests_number id params k = rw (number_at k) (simp (equal_numbers, and_true))
 
+-- ---- which requests are shown
+
+-- those that tables hold
+pub tables_show : {c : Contents} {db : Database} → Tables c db → ShowsDated c.dated db
+tables_show t =
+    let h = t.requests in record {
+      rows = λ there. shows_dated (record {
+        kept = map dated_put h.kept;
+        spelt = h.spelt ∙ sym (map-map row_at dated_put h.kept);
+        same = rw (map-map dated_at dated_put h.kept) h.same;
+      });
+    }
+
+-- only one list of them is shown
+unmapped : (xs ys : List Dated) → map dated_shown xs ≡ map dated_shown ys → xs ≡ ys
+unmapped [] [] e = refl
+unmapped (x ∷ xs) (y ∷ ys) e =
+    let first : dated_shown x ≡ dated_shown y = cc in
+    let later : map dated_shown xs ≡ map dated_shown ys = cc in
+    let same = dated_back x y (subst (λ row. ReadsDated row y) (sym first) (reads_itself y)) in
+    ap₂ (λ z zs. z ∷ zs) (sym same) (unmapped xs ys later)
+unmapped xs ys e = absurd (omega (arith, ap length e))
+
+pub same_shown : {xs ys : List Dated} {db : Database} → db.schema ≡ desk_schema
+    → ShowsDated xs db → ShowsDated ys db → IsPermutation xs ys
+same_shown {xs} {ys} there one other =
+    let a = one.rows there in
+    let b = other.rows there in
+    IsPermutation-trans xs b.values ys
+    (subst (IsPermutation xs) (unmapped a.values b.values (sym a.are ∙ b.are)) a.same)
+    (IsPermutation-sym ys b.values b.same)
+
+-- what is read of all rows is what is shown
+shown_read : (row : Row) (x : Dated) → ReadsDated (shows dated_shown_terms [] row) x
+    → shows dated_shown_terms [] row ≡ dated_shown x
+shown_read row x h =
+    let r = h.request in
+    rw (r.id, r.queue, r.subject, r.status, r.owner, r.level, r.created, r.opened, r.turn, r.since,
+    h.due)
+
+all_read : (rows : List Row) (xs : List Dated)
+    → AllZip ReadsDated (map (shows dated_shown_terms []) rows) xs
+    → map (shows dated_shown_terms []) rows ≡ map dated_shown xs
+all_read [] [] zip = refl
+all_read (row ∷ rows) (x ∷ xs) zip =
+    ap₂ (λ r rs. r ∷ rs) (shown_read row x zip.0) (all_read rows xs zip.1)
+all_read rows xs zip = absurd (grind arith)
+
+pub dated_read : {names : List (List ℕ)} {text : List ℕ} {order : List Term} {old new : State}
+    (rows : List Row) (xs : List Dated)
+    → Selects text (reads request.tree [] dated_shown_terms order) names
+    → Shown text [] old new rows → AllZip ReadsDated rows xs → ShowsDated xs old.now
+dated_read {text = text} {order} {old} {new} rows xs means shown zip = record {
+  rows = λ there.
+      let from = old.now.trees request.tree in
+      let p = picked_by text [] old new there request.tree [] dated_shown_terms order means rows
+      shown in
+      let is = all_read p.picked xs (rw p.shown at zip) in
+      let it = showing p.picked xs is in
+      let picked : SpellsDated xs p.picked =
+      record { kept = it.0; spelt = it.1; same = rw it.2 (IsPermutation-refl xs) } in
+      shows_dated (spells_moved picked from (IsPermutation-sym from p.picked
+      (subst (λ (rs : List Row). IsPermutation rs p.picked) (every from) p.same)));
+}
+
 -- ---- where another table changes
 
 pub elsewhere : {tree : ℕ} {xs : List Dated} {old new : Database} → (request.tree == tree) ≡ false
@@ -118,9 +195,6 @@ elsewhere {tree} {xs} {old} {new} other has moves shown = record {
 }
 
 -- ---- where a request is put in
-
-abbrev dated_put : Dated → Showing
-dated_put x = record { row = dated_row x; dated = x; is = refl }
 
 -- one more, under a number that no row has
 pub dated_added : (x : Dated) {xs : List Dated} {old new : Database}

@@ -11,6 +11,7 @@ use Rattle.sqlite_value.specs.Order.{value_cmp, Row}
 use Rattle.sqlite_trees.specs.Tree.{IsTable, rowid, has_rowid, put_row, without_rowid}
 use Rattle.sqlite_trees.proofs.ListLemmas.{map-map, filter-map, IsPermutation-filter}
 use Rattle.sqlite_trees.proofs.ListLemmas.{ascending-filter, along_permutation, filter_same, all_of}
+use Rattle.sqlite_trees.proofs.ListLemmas.{pull_back}
 use Rattle.sqlite_trees.proofs.TreeLemmas.{IsTable-put_row}
 use Rattle.sqlite_rules.specs.Edit.{is_taken}
 use Rattle.std.proofs.lemmas.Cmp.{tied_itself}
@@ -90,6 +91,17 @@ module _ {K X : Type 0} {row : K → Row} {value : K → X} {xs : List X} {rows 
     pub spells_again : {ys : List X} → IsPermutation xs ys → Spells row value ys rows
     spells_again {ys} same =
         search (h.spelt, IsPermutation-trans (map value h.kept) xs ys h.same same)
+
+    -- rows in another order
+    pub spells_moved : (others : List Row) → IsPermutation rows others
+        → Spells row value xs others
+    spells_moved others same =
+        let it = pull_back row rows others same h.kept h.spelt in record {
+          kept = it.0;
+          spelt = it.2;
+          same = IsPermutation-trans _ _ _ (IsPermutation-sym _ _
+              (IsPermutation-map value _ _ it.1)) h.same;
+        }
 
     pub holds : IsTable rows → Holds row value xs rows
     holds table = search (h.spelt, table, h.same)

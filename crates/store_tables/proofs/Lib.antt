@@ -5,6 +5,7 @@ pub mod Contents
 pub mod CreateLemmas
 pub mod DatedLemmas
 pub mod DueLemmas
+mod Examples
 pub mod FoundLemmas
 pub mod KeptLemmas
 pub mod Lasting
@@ -15,6 +16,7 @@ pub mod ReadOn
 pub mod ReadingLemmas
 pub mod RowLemmas
 pub mod SchemaLemmas
+pub mod ShownDated
 pub mod ShutLemmas
 pub mod Spared
 pub mod StandLemmas

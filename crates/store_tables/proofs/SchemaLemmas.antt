@@ -79,7 +79,7 @@ module _ (limit : Option ℕ) (mode : Mode) (params : Row) (db : Database) (text
 
     -- so what counts some made or dropped none
     redefines_none : (k : Command) (returning : Option Returning) (n : ℕ) → tally.rows ≡ Some n
-        → MatchBool (is_some returning) (Refuses InvalidQuery (Ok (tally, after)))
+        → MatchBool (is_some returning) (Refuses {A = Tally × Database} InvalidQuery (Ok (tally, after)))
         (Redefines limit mode params db text k (Ok (tally, after))) → after.schema ≡ db.schema
     redefines_none k None n some h = absurd (let e = sym (redefines k h) ∙ some in cc)
     redefines_none k (Some what) n some h = absurd (cc)

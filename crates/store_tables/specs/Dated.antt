@@ -27,3 +27,10 @@ abbrev pub MakesDated : {X : Type 0} → (Contents → Contents) → State → S
     → Type 0
 MakesDated change old new result =
     (c : Contents) → ShowsDatedNow c.dated old → OnOk result (ShowsDatedNow (change c).dated new)
+
+-- the same outside of a transaction
+abbrev pub MakesDatedCommitted : {X : Type 0} → (Contents → Contents) → State → State
+    → Result X StoreFault → Type 0
+MakesDatedCommitted change old new result =
+    (c : Contents) → ShowDatedCommitted c.dated old
+    → OnOk result (ShowDatedCommitted (change c).dated new)

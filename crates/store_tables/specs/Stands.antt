@@ -16,6 +16,10 @@ use Rattle.store_tables.specs.Contents.{first_schema}
 abbrev pub WhereOpen : (State → Type 0) → State → Type 0
 WhereOpen P s = HasCleanDisk s → IsTrue s.is_open → P s
 
+-- the tables are those of the last commit, whatever there are
+abbrev pub IsSettled : State → Type 0
+IsSettled s = IsTrue s.is_open → s.now ≡ s.committed
+
 -- the tables hold this, and so do those of the last commit
 abbrev pub HoldCommitted : Contents → State → Type 0
 HoldCommitted c = WhereOpen (λ s. Tables c s.now × Tables c s.committed)

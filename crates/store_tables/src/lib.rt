@@ -13,10 +13,12 @@
 //! `written` puts rows in and takes rows out, in a transaction.
 //!
 //! Of `specs/`, `Calls`, `Readings`, `Picked` and `Seen` say what calls answer and leave, `Making`,
-//! `Kept` and `Stands` how far tables are made and what they stand for. Of `proofs/`, `then`,
-//! `giving`, `telling` and `failed_at` put readings together (`ReadOn`), `does_both`, `does_more` and
-//! `does_all` writes (`StepLemmas`). Where tables stand for a desk a read is never a mismatch
-//! (`blames_none`), and what stood before stands afterwards (`stands`, `stands_for` of `Spared`).
+//! `Kept` and `Stands` how far tables are made and what they stand for, `Dated` which requests they
+//! show, whatever rows the other tables have. Of `proofs/`, `then`, `giving`, `telling` and
+//! `failed_at` put readings together (`ReadOn`), `does_both`, `does_more` and `does_all` writes
+//! (`StepLemmas`). Where tables stand for a desk a read is never a mismatch (`blames_none`), and what
+//! stood before stands afterwards (`stands`, `stands_for` of `Spared`). `ShownDated` follows the
+//! requests that tables show from call to call.
 #![tactic(auto)]
 
 mod columns;

@@ -1,7 +1,13 @@
 use Rattle.store_tables.proofs.StandLemmas.{begins}
+use Rattle.store_tables.proofs.ShownDated.{dated_through}
 use Rattle.store_core.proofs.dues.write_dues.Goals as goal
 
 pub returns-clause-done : goal.returns-clause-done
 returns-clause-done g c d stand =
     c.finish.ensures.done _ (c.in_ok-put_all.ensures.put.makes d
     (begins g.S.Store c.args.tables.now.conn _ d c.transaction-tx.ensures.begun stand))
+
+pub returns-clause-shown : goal.returns-clause-shown
+returns-clause-shown g c =
+    dated_through g.S.Store c.args.tables.now.conn _ _ _ c.finish.result c.transaction-tx.ensures.begun
+    c.in_ok-put_all.ensures.put.shows c.finish.ensures.honest c.finish.ensures.shown

@@ -1,5 +1,5 @@
 //! The requests with their due moments, which no other read looks at.
-ghost use Rattle.std.specs.Prelude.{◌≡◌, filter, option_to_list, fold};
+ghost use Rattle.std.specs.Prelude.{◌≡◌, filter, option_to_list, fold, IfOk};
 ghost use Rattle.store_tables.specs.declared.fault.StoreFault.{StoreFault};
 ghost use Rattle.store_tables.specs.Contents.Request.{IsDatedRow, ReadsDated, by_dated_id, by_due};
 ghost use Rattle.store_tables.specs.Contents.Request.{has_number, is_dated_after, is_dated_in};
@@ -10,6 +10,7 @@ ghost use Rattle.store_tables.specs.Calls.{Leaves, ReadsAlone, ReadsRows};
 ghost use Rattle.store_tables.specs.Seen.{seen};
 ghost use Rattle.sqlite.specs.Values.{bound};
 ghost use Rattle.store_tables.specs.Contents.{set_each_due};
+ghost use Rattle.store_tables.specs.Dated.{ShowDatedCommitted};
 
 use crate::columns::{nullable_minute, nullable_minute_at, number, words};
 use crate::fault::StoreFault;
@@ -52,8 +53,9 @@ fn dated_rows<S: Alter>(
     select_all(alloc, tables, sql, params)
 }
 
-/// The requests, by number, each with its due moment. `Mismatch` where a row is no request or its
-/// due moment is neither a minute nor absent, `Refused` where the store or memory refuses it.
+/// The requests, by number, each with its due moment: all that the tables show. `Mismatch` where a
+/// row is no request or its due moment is neither a minute nor absent, `Refused` where the store or
+/// memory refuses it.
 pub fn dated_requests<S: Alter>(
     alloc: Global,
     tables: &mut Tables<S>,
@@ -62,7 +64,9 @@ pub fn dated_requests<S: Alter>(
         (seen S.Store tables.old) (seen S.Store tables.new) result }
     ensures tested { TestsDated
         (seen S.Store tables.old) (seen S.Store tables.new) result }
+    ensures shown { IfOk result (λ xs. ShowDatedCommitted xs.items (seen S.Store tables.new)) }
 {
+    tables.at_rest();
     dated_rows(
         alloc,
         tables,

@@ -1,9 +1,8 @@
 use Rattle.std.proofs.Common.{refl}
 use Rattle.sqlite.specs.Listing.{understood}
 use Rattle.sqlite_tied.specs.Compute.{everything}
-use Rattle.store_tables.specs.Query.{id_order}
-use Rattle.store_tables.proofs.Contents.Request.{dated_table}
-use Rattle.store_tables.proofs.RowLemmas.{lists_all, ranked, told_of}
+use Rattle.store_tables.proofs.RowLemmas.{told_of}
+use Rattle.store_tables.proofs.ShownDated.{dated_told}
 use Rattle.store_tables.proofs.TextLemmas.{none_given}
 use Rattle.store_tables.proofs.tables.request.dated.dated_requests.Goals as goal
 
@@ -13,6 +12,6 @@ dated_rows-requires g c schema k found = none_given schema _ k found (λ s n. re
 
 pub returns : goal.returns
 unfolding understood everything
-returns g c = lists_all dated_table (told_of c.dated_rows.ensures.read c.dated_rows.ensures.leaves) id_order
+returns g c = dated_told (told_of c.dated_rows.ensures.read c.dated_rows.ensures.leaves)
     (record { is = refl; plain = (refl, refl); unlisted = refl; none = λ s n. refl })
-    (λ a b. simp ranked)
+    c.at_rest.ensures
