@@ -1,17 +1,18 @@
 -- The requests that tables show: after a change, and where they stand for a desk.
 use Rattle.std.proofs.Common.{◌≡◌, ◌∙◌, ℕ, IsTrue, List, None, Option, Some, ◌∷◌, fold, refl}
-use Rattle.std.proofs.Common.{ap, arith}
+use Rattle.std.proofs.Common.{[], ap, arith, if◌then◌else◌, map, map-id, sym}
 use Rattle.std.specs.Option.{option_to_list}
 use Rattle.std.proofs.lemmas.List.Sorted.{IsPermutation-sym, IsPermutation-trans}
 use Rattle.sqlite.specs.State.{HasCleanDisk, State}
 use Rattle.hours_core.specs.declared.stay.Stay.{Stay}
+use Rattle.sqlite_trees.proofs.ListLemmas.{map-map}
 use Rattle.desk_model.specs.declared.change.Change.{Change}
 use Rattle.desk_model.specs.declared.rows.RequestRow.{RequestRow}
 use Rattle.desk_model.specs.Desk.{Desk}
 use Rattle.desk_model.specs.IsDesk.{IsDesk}
 use Rattle.store_tables.specs.Contents.{Contents, add_entry, add_link, add_queue, add_watcher}
-use Rattle.store_tables.specs.Contents.{contents_of, drop_link, drop_watcher}
-use Rattle.store_tables.specs.Contents.Request.{Dated, by_dated_id}
+use Rattle.store_tables.specs.Contents.{contents_of, drop_link, drop_watcher, set_each_due}
+use Rattle.store_tables.specs.Contents.Request.{Dated, by_dated_id, is_numbered}
 use Rattle.store_tables.specs.Dated.{ShowDatedCommitted}
 use Rattle.store_tables.specs.Picked.{AreOrdered}
 use Rattle.store_tables.specs.Stands.{HoldCommitted}
@@ -62,15 +63,29 @@ written_dated change c =
     ∙ set_in change.row change.due _ _ (added_to change.filed change.due opened c
     (by_each dated_in add_queue (λ d x. refl) (option_to_list change.queue) c))
 
+-- ---- where due moments are set
+
+-- of whatever requests, each gets the moment that is set under its number, of several the last
+abbrev pub set_on : Dated → ℕ × Option ℕ → Dated
+set_on q p = (q.0, if is_numbered p.0 q.0 then p.1 else q.1)
+
+pub dues_on_dated : (dues : List (ℕ × Option ℕ)) (c : Contents)
+    → (fold set_each_due c dues).dated ≡ map (λ q. fold set_on q dues) c.dated
+dues_on_dated [] c = sym (map-id c.dated)
+dues_on_dated (p ∷ ps) c =
+    dues_on_dated ps (set_each_due c p)
+    ∙ map-map (λ q. fold set_on q ps) (λ q. set_on q p) c.dated
+
 -- ---- of tables that stand for a desk
 
 -- in the order of their numbers, those that are shown are the desk's
-pub shown_of_desk : (due : RequestRow → Option ℕ) (desk : Desk) → IsDesk desk → {s : State}
+pub shown_of_desk : (due : RequestRow → Option ℕ) (desk : Desk) → IsDesk desk → (s : State)
     → HoldCommitted (contents_of due desk) s → HasCleanDisk s → IsTrue s.is_open
-    → {xs ys : List Dated} → ShowDatedCommitted xs s → AreOrdered by_dated_id xs ys
+    → (xs ys : List Dated) → ShowDatedCommitted xs s → AreOrdered by_dated_id xs ys
     → ys ≡ dated_rows due desk
-shown_of_desk due desk is holds clean live {xs} {ys} shown ordered =
-    let same = IsPermutation-sym xs _ (shown_held holds clean live shown) in
+shown_of_desk due desk is s holds clean live xs ys shown ordered =
+    let same = IsPermutation-sym xs _ (shown_held (contents_of due desk) s holds clean live xs shown)
+    in
     the_list dated_total (dated_rows due desk) ys (dated_rise due desk is) (record {
       same = IsPermutation-trans (dated_rows due desk) xs ys same ordered.same;
       sorted = ordered.sorted;

@@ -167,11 +167,11 @@ all_read (row ∷ rows) (x ∷ xs) zip =
     ap₂ (λ r rs. r ∷ rs) (shown_read row x zip.0) (all_read rows xs zip.1)
 all_read rows xs zip = absurd (grind arith)
 
-pub dated_read : {names : List (List ℕ)} {text : List ℕ} {order : List Term} {old new : State}
+pub dated_read : {names : List (List ℕ)} (text : List ℕ) (order : List Term) (old new : State)
     (rows : List Row) (xs : List Dated)
     → Selects text (reads request.tree [] dated_shown_terms order) names
     → Shown text [] old new rows → AllZip ReadsDated rows xs → ShowsDated xs old.now
-dated_read {text = text} {order} {old} {new} rows xs means shown zip = record {
+dated_read text order old new rows xs means shown zip = record {
   rows = λ there.
       let from = old.now.trees request.tree in
       let p = picked_by text [] old new there request.tree [] dated_shown_terms order means rows

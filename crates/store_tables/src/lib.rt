@@ -21,6 +21,7 @@
 //! requests that tables show from call to call.
 #![tactic(auto)]
 
+mod at_rest;
 mod columns;
 pub mod fault;
 mod query;

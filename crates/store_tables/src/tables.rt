@@ -1,7 +1,5 @@
 //! Tables over a connection, and the statements that make them.
 ghost use Rattle.std.specs.Prelude.{◌≡◌, false};
-ghost use Rattle.store_tables.specs.Seen.{seen};
-ghost use Rattle.store_tables.specs.Stands.{IsSettled};
 
 pub mod entry;
 pub mod link;
@@ -19,15 +17,6 @@ pub struct Tables<S: Alter> {
     /// The connection; a transaction that begins on it ends before the tables are used again.
     pub conn: Connection<S>,
     ghost idle: { conn.in_transaction ≡ false },
-}
-
-impl<S: Alter> Tables<S> {
-    /// Nothing is done: outside of a transaction what the tables show is what was committed.
-    pub(crate) fn at_rest(&self)
-        ensures { IsSettled (seen S.Store self.now) }
-    {
-        let _ = self.conn.is_autocommit();
-    }
 }
 
 /// The statements that make the tables, in an order in which each finds those that it refers to.

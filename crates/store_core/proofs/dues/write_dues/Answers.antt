@@ -9,5 +9,5 @@ returns-clause-done g c d stand =
 
 pub returns-clause-shown : goal.returns-clause-shown
 returns-clause-shown g c =
-    dated_through g.S.Store c.args.tables.now.conn _ _ _ c.finish.result c.transaction-tx.ensures.begun
+    dated_through _ g.S.Store c.args.tables.now.conn _ _ _ _ c.finish.result c.transaction-tx.ensures.begun
     c.in_ok-put_all.ensures.put.shows c.finish.ensures.honest c.finish.ensures.shown
