@@ -1,21 +1,18 @@
 -- The requests that tables show, from call to call.
-use Rattle.std.proofs.Common.{◌≡◌, ◌∙◌, ℕ, Err, IfOk, IsPermutation, IsTrue, List, Ok, OnOk, Result}
+use Rattle.std.proofs.Common.{◌≡◌, ◌∙◌, ℕ, Err, IfOk, IsPermutation, IsTrue, List, Ok, Result}
 use Rattle.std.proofs.Common.{[], refl, subst, sym, true}
 use Rattle.sqlite.specs.Held.{Held, state}
-use Rattle.sqlite.specs.Order.{Row}
 use Rattle.sqlite.specs.State.{HasCleanDisk, State}
 use Rattle.sqlite.specs.Store.{Ghosts}
-use Rattle.sqlite.specs.Term.{Term}
-use Rattle.store_tables.specs.Calls.{LeavesTables, ValidatesTable, WasClean}
+use Rattle.store_tables.specs.Calls.{AreLeft, LeavesTables, ValidatesTable, WasClean}
 use Rattle.store_tables.specs.Contents.{Contents}
 use Rattle.store_tables.specs.Contents.Request.{Dated, IsDatedRow, ReadsDated, by_dated_id}
 use Rattle.store_tables.specs.Contents.Request.{dated_shown_terms, request}
-use Rattle.store_tables.specs.Dated.{MakesDated, MakesDatedCommitted, ShowDatedCommitted}
-use Rattle.store_tables.specs.Dated.{ShowsDated, ShowsDatedNow}
+use Rattle.store_tables.specs.Dated.{ShowDatedCommitted, ShowsDated, ShowsDatedNow}
 use Rattle.store_tables.specs.Picked.{AreOrdered}
 use Rattle.store_tables.specs.Query.{id_order, reads}
 use Rattle.store_tables.specs.Readings.{Reads}
-use Rattle.store_tables.specs.Stands.{Commits, HoldCommitted, IsSettled}
+use Rattle.store_tables.specs.Stands.{HoldCommitted, IsSettled}
 use Rattle.store_tables.specs.declared.fault.StoreFault.{StoreFault}
 use Rattle.store_tables.proofs.Contents.Request.{dated_table}
 use Rattle.store_tables.proofs.DatedLemmas.{dated_read, same_shown, tables_show}
@@ -24,9 +21,13 @@ use Rattle.store_tables.proofs.RowLemmas.{Asked, lists_all, ranked}
 use Rattle.store_tables.proofs.Spared.{left_both}
 
 -- tables that are left show what they showed
+pub shown_left : (old new : State) → WasClean old new → AreLeft old new → (xs : List Dated)
+    → ShowDatedCommitted xs old → ShowDatedCommitted xs new
+shown_left old new clean left xs = left_both (ShowsDated xs) old new clean left
+
 pub shown_still : {old new : State} → LeavesTables old new → (xs : List Dated)
     → ShowDatedCommitted xs old → ShowDatedCommitted xs new
-shown_still {old} {new} kept xs = left_both (ShowsDated xs) old new kept.clean kept.left
+shown_still {old} {new} kept = shown_left old new kept.clean kept.left
 
 -- where they hold values, those are what they show, in some order
 pub shown_held : (c : Contents) (s : State) → HoldCommitted c s → HasCleanDisk s → IsTrue s.is_open
@@ -40,29 +41,11 @@ pub held_shown : (c : Contents) (s : State) → HoldCommitted c s → ShowDatedC
 held_shown c s holds clean live =
     let t = holds clean live in (tables_show t.0, tables_show t.1)
 
--- ---- a transaction, from its begin to its end
-
+-- in a transaction that begins
 pub dated_begun : {S : Type 0} (g : Ghosts S) (old tx : Held S) (xs : List Dated)
     → tx ≡ record old { in_transaction = true } → ShowDatedCommitted xs (state g old)
     → ShowsDatedNow xs (state g tx)
 dated_begun g old tx xs is shown = rw is (λ clean live. ((shown clean live).0, refl))
-
-dated_ended : {X : Type 0} (xs : List Dated) (mid end : State) (r : Result X StoreFault)
-    → WasClean mid end → OnOk r (Commits mid end) → ShowsDatedNow xs mid
-    → OnOk r (ShowDatedCommitted xs end)
-dated_ended xs mid end (Ok x) was commits shown = λ clean live.
-    let it = commits clean in
-    let now = (shown (was clean) it.0).0 in
-    (subst (ShowsDated xs) (sym it.1) now, subst (ShowsDated xs) (sym it.2) now)
-dated_ended xs mid end (Err e) was commits shown = tt
-
-pub dated_through : {S X Y : Type 0} (change : Contents → Contents) (g : Ghosts S) (old tx : Held S)
-    (mid end : State) (x : X) (r : Result Y StoreFault) → tx ≡ record old { in_transaction = true } → MakesDated change (state g tx) mid (Ok x)
-    → WasClean mid end → OnOk r (Commits mid end)
-    → MakesDatedCommitted change (state g old) end r
-dated_through change g old tx mid end x r is made was commits c shown =
-    dated_ended (change c).dated mid end r was commits
-    (made c (dated_begun g old tx c.dated is shown))
 
 -- ---- where they are read
 

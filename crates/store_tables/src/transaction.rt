@@ -1,9 +1,11 @@
 //! A transaction: one statement in it, and its end.
-ghost use Rattle.std.specs.Prelude.{◌≡◌, false, IfErr, OnOk, OnErr};
+ghost use Rattle.std.specs.Prelude.{◌≡◌, false, List, IfErr, OnOk, OnErr};
 ghost use Rattle.sqlite.specs.Held.{state};
 ghost use Rattle.sqlite.specs.Values.{bound};
 ghost use Rattle.store_tables.specs.Calls.{KeepsConnection, StatementRuns, WasClean};
 ghost use Rattle.store_tables.specs.Contents.{Contents};
+ghost use Rattle.store_tables.specs.Contents.Request.{Dated};
+ghost use Rattle.store_tables.specs.Dated.{ShowDatedCommitted, ShowsDatedNow};
 ghost use Rattle.store_tables.specs.Stands.{Commits, RolledBack, InTransaction, HoldsNow, HasRun, RanOnAny, HoldCommitted};
 ghost use Rattle.store_tables.specs.declared.fault.StoreFault.{StoreFault};
 
@@ -72,6 +74,8 @@ pub fn finish<S: Alter>(tx: Transaction<'_, S>) -> Result<(), StoreFault>
     ensures ended { tx.exit.0.now.in_transaction ≡ false }
     ensures done { (c : Contents) → HoldsNow c (state S.Store tx.entry.conn.now) →
         OnOk result (HoldCommitted c (state S.Store tx.exit.0.now)) }
+    ensures dated { (xs : List Dated) → ShowsDatedNow xs (state S.Store tx.entry.conn.now) →
+        OnOk result (ShowDatedCommitted xs (state S.Store tx.exit.0.now)) }
     ensures shown { OnOk result
         (Commits (state S.Store tx.entry.conn.now) (state S.Store tx.exit.0.now)) }
     ensures back { InTransaction (state S.Store tx.entry.conn.now) →

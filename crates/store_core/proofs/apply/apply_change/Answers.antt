@@ -1,5 +1,6 @@
 use Rattle.store_tables.proofs.StandLemmas.{begins}
-use Rattle.store_tables.proofs.ShownDated.{dated_through}
+use Rattle.store_tables.proofs.ShownDated.{dated_begun}
+use Rattle.store_core.proofs.DatedWritten.{written_dated}
 use Rattle.store_core.proofs.apply.apply_change.Goals as goal
 
 pub returns-clause-done : goal.returns-clause-done
@@ -8,6 +9,6 @@ returns-clause-done g c d stand =
     (begins g.S.Store c.args.tables.now.conn _ d c.transaction-tx.ensures.begun stand))
 
 pub returns-clause-shown : goal.returns-clause-shown
-returns-clause-shown g c =
-    dated_through _ g.S.Store c.args.tables.now.conn _ _ _ _ c.finish.result c.transaction-tx.ensures.begun
-    c.in_ok-write_change.ensures.made.shows c.finish.ensures.honest c.finish.ensures.shown
+returns-clause-shown g c d shown =
+    c.finish.ensures.dated _ (c.in_ok-write_change.ensures.made.shows d
+    (dated_begun g.S.Store c.args.tables.now.conn _ d.dated c.transaction-tx.ensures.begun shown))

@@ -1,5 +1,5 @@
 use Rattle.store_tables.proofs.StandLemmas.{begins}
-use Rattle.store_tables.proofs.ShownDated.{dated_through}
+use Rattle.store_tables.proofs.ShownDated.{dated_begun}
 use Rattle.store_core.proofs.dues.write_dues.Goals as goal
 
 pub returns-clause-done : goal.returns-clause-done
@@ -8,6 +8,6 @@ returns-clause-done g c d stand =
     (begins g.S.Store c.args.tables.now.conn _ d c.transaction-tx.ensures.begun stand))
 
 pub returns-clause-shown : goal.returns-clause-shown
-returns-clause-shown g c =
-    dated_through _ g.S.Store c.args.tables.now.conn _ _ _ _ c.finish.result c.transaction-tx.ensures.begun
-    c.in_ok-put_all.ensures.put.shows c.finish.ensures.honest c.finish.ensures.shown
+returns-clause-shown g c d shown =
+    c.finish.ensures.dated _ (c.in_ok-put_all.ensures.put.shows d
+    (dated_begun g.S.Store c.args.tables.now.conn _ d.dated c.transaction-tx.ensures.begun shown))
