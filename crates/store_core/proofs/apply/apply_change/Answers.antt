@@ -1,6 +1,5 @@
 use Rattle.store_tables.proofs.StandLemmas.{begins}
 use Rattle.store_tables.proofs.ShownDated.{dated_begun}
-use Rattle.store_core.proofs.DatedWritten.{written_dated}
 use Rattle.store_core.proofs.apply.apply_change.Goals as goal
 
 pub returns-clause-done : goal.returns-clause-done
