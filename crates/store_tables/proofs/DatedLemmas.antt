@@ -1,5 +1,5 @@
 -- The requests that tables show, where one is put in or gives way, or another table changes.
-use Rattle.std.proofs.Common.{◌≡◌, ◌≢◌, ◌∙◌, ◌==◌, ℕ, ℤ, Bool, List, [], ◌∷◌, IsPermutation, ap}
+use Rattle.std.proofs.Common.{◌≡◌, ◌∙◌, ◌==◌, ℕ, List, [], ◌∷◌, IsPermutation, ap}
 use Rattle.std.proofs.Common.{arith, drop, eqb-true, false, filter, is_eq, length, map, not, pos}
 use Rattle.std.proofs.Common.{ap₂, refl, subst, sym, true}
 use Rattle.std.proofs.lemmas.Bool.Decides.{nat_tests}
@@ -156,8 +156,19 @@ shown_read : (row : Row) (x : Dated) → ReadsDated (shows dated_shown_terms [] 
     → shows dated_shown_terms [] row ≡ dated_shown x
 shown_read row x h =
     let r = h.request in
-    rw (r.id, r.queue, r.subject, r.status, r.owner, r.level, r.created, r.opened, r.turn, r.since,
-    h.due)
+    rw (
+      r.id,
+      r.queue,
+      r.subject,
+      r.status,
+      r.owner,
+      r.level,
+      r.created,
+      r.opened,
+      r.turn,
+      r.since,
+      h.due,
+    )
 
 all_read : (rows : List Row) (xs : List Dated)
     → AllZip ReadsDated (map (shows dated_shown_terms []) rows) xs

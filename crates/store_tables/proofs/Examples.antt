@@ -9,7 +9,6 @@ use Rattle.sqlite.specs.Effect.{Database}
 use Rattle.sqlite.specs.Order.{Row}
 use Rattle.sqlite.specs.Schema.{Schema}
 use Rattle.sqlite.specs.declared.types.Value.TheVariants.{Int, Null, Text as Words}
-use Rattle.desk_model.specs.declared.rows.RequestRow.{RequestRow}
 use Rattle.desk_model.specs.declared.rows.Turn.TheVariants as turn
 use Rattle.store_tables.specs.Contents.{desk_schema}
 use Rattle.store_tables.specs.Contents.Request.{Dated, dated_shown, request}

@@ -1,5 +1,5 @@
 -- A statement that changes rows makes and drops no table, whatever tables there are.
-use Rattle.std.proofs.Common.{◌≡◌, ◌⊎◌, ℕ, Bool, Err, List, None, Ok, Option, Some, [], ap, arith}
+use Rattle.std.proofs.Common.{◌≡◌, ℕ, Bool, Err, List, None, Ok, Option, Some, [], ap, arith}
 use Rattle.std.proofs.Common.{false, inl, inr, is_some, refl, slice_get, subst, sym, true, unwrap_or, ◌∙◌}
 use Rattle.std.proofs.lemmas.Bool.{cases_Bool}
 use Rattle.std.specs.Prelude.{MatchBool}

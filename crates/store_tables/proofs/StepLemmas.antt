@@ -8,7 +8,7 @@ use Rattle.sqlite.specs.State.{State, Executes}
 use Rattle.sqlite.specs.Change.{KeepsRows}
 use Rattle.sqlite_resolve.specs.Compile.{first}
 use Rattle.store_tables.specs.Calls.{StatementChanges, QueryInTransaction, Makes, StatementRuns, WasClean}
-use Rattle.store_tables.specs.Contents.{Contents, Tables, desk_schema}
+use Rattle.store_tables.specs.Contents.{Contents, desk_schema}
 use Rattle.store_tables.specs.Dated.{MakesDated}
 use Rattle.store_tables.specs.Stands.{InTransaction, HasTables, KeepsCommitted, OnlyStaysChange, HasRun, RanOnAny}
 use Rattle.store_tables.specs.Contents.{first_schema}

@@ -1,6 +1,6 @@
 -- What a statement makes of tables that are there: of what they hold, and of the requests that they
 -- show.
-use Rattle.std.proofs.Common.{◌≡◌, ◌==◌, ℕ, ℤ, Bool, List, [], ◌∷◌, false, filter, not, subst, sym}
+use Rattle.std.proofs.Common.{◌≡◌, ◌==◌, ℕ, ℤ, Bool, List, ◌∷◌, false, subst, sym}
 use Rattle.sqlite.specs.Edit.{id_in}
 use Rattle.sqlite.specs.Effect.{Database}
 use Rattle.sqlite.specs.Order.{Row}

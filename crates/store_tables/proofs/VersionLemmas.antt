@@ -9,7 +9,6 @@ use Rattle.sqlite.specs.Listing.{understood}
 use Rattle.store_tables.proofs.Meaning.{Changes, Selects}
 use Rattle.std.proofs.Common.{List, filter, arith, refl, subst, drop, IfErr, Result, ◌≤◌, suc, zero}
 use Rattle.std.proofs.Common.{◌≡◌, ℕ, pos, [], ◌∷◌, Ok, map, sym, ap, ◌∙◌, IfOk}
-use Rattle.std.proofs.lemmas.List.Sorted.{IsPermutation-sym}
 use Rattle.sqlite.proofs.Callers.{one_permutation}
 use Rattle.sqlite.specs.Order.{Row, column}
 use Rattle.sqlite.specs.Tree.{Trees, put_row, rowid, without_rowid}

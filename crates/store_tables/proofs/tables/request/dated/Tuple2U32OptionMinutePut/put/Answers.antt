@@ -25,7 +25,6 @@ use Rattle.store_tables.proofs.ValueLemmas.{values_of}
 use Rattle.store_tables.proofs.Contents.Request.{dated_table}
 use Rattle.sqlite_tied.specs.Compute.{everything}
 use Rattle.sqlite.specs.Command.TheVariants.{Update}
-use Rattle.store_tables.specs.Contents.Stay.{stay}
 use Rattle.store_tables.specs.Query.{reads}
 use Rattle.sqlite.specs.Listing.{understood}
 use Rattle.store_tables.proofs.Meaning.{Changes}
