@@ -84,8 +84,8 @@ pub shown_of_desk : (due : RequestRow → Option ℕ) (desk : Desk) → IsDesk d
     → (xs ys : List Dated) → ShowDatedCommitted xs s → AreOrdered by_dated_id xs ys
     → ys ≡ dated_rows due desk
 shown_of_desk due desk is s holds clean live xs ys shown ordered =
-    let same = IsPermutation-sym xs _ (shown_held (contents_of due desk) s holds clean live xs shown)
-    in
+    let held = shown_held (contents_of due desk) s holds clean live xs shown in
+    let same = IsPermutation-sym xs (dated_rows due desk) held in
     the_list dated_total (dated_rows due desk) ys (dated_rise due desk is) (record {
       same = IsPermutation-trans (dated_rows due desk) xs ys same ordered.same;
       sorted = ordered.sorted;

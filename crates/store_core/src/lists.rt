@@ -69,9 +69,9 @@ impl<S: Alter> Store<S> {
     }
 
     /// The requests, in the order of their numbers, each with the due moment that the tables keep:
-    /// all that they show, whatever rows the other tables have. `Mismatch` where a row is no request
-    /// or its due moment is neither a minute nor absent, `Refused` where the store or memory refuses
-    /// it. The tables stay as they are.
+    /// all that they show, whatever rows the other tables have. `Mismatch` where a row is no
+    /// request or its due moment is neither a minute nor absent, `Refused` where the store or
+    /// memory refuses it. The tables stay as they are.
     pub fn dated_requests(
         &mut self,
         alloc: Global,

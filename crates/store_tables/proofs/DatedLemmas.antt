@@ -3,7 +3,8 @@ use Rattle.std.proofs.Common.{◌≡◌, ◌∙◌, ◌==◌, ℕ, List, [], ◌
 use Rattle.std.proofs.Common.{arith, drop, eqb-true, false, filter, is_eq, length, map, not, pos}
 use Rattle.std.proofs.Common.{ap₂, refl, subst, sym, true}
 use Rattle.std.proofs.lemmas.Bool.Decides.{nat_tests}
-use Rattle.std.proofs.lemmas.List.Sorted.{IsPermutation-refl, IsPermutation-sym, IsPermutation-trans}
+use Rattle.std.proofs.lemmas.List.Sorted.{IsPermutation-refl, IsPermutation-sym}
+use Rattle.std.proofs.lemmas.List.Sorted.{IsPermutation-trans}
 use Rattle.std.specs.List.{AllZip}
 use Rattle.sqlite.specs.State.{Shown, State}
 use Rattle.sqlite.specs.Cast.{cast_row}
@@ -113,7 +114,8 @@ pub number_at : (k : Showing) → column k.row 0 ≡ count_value k.dated.0.id
 number_at k = (columns_at k).request.id
 
 has_number_at : (id : ℕ) (k : Showing) → has_rowid (pos id) k.row ≡ has_number id k.dated
-has_number_at id k = rw (number_at k) (ap is_eq (order_numbers k.dated.0.id id) ∙ grind (arith, nat_tests))
+has_number_at id k =
+    rw (number_at k) (ap is_eq (order_numbers k.dated.0.id id) ∙ grind (arith, nat_tests))
 
 tests_number : (id : ℕ) (params : Row) (k : Showing)
     → passes numbered_test (count_value id ∷ params) k.row ≡ has_number id k.dated
@@ -224,7 +226,8 @@ module _ (id : ℕ) (project : List Term) (params : Row) (table : Table) (next :
     (to : (k : Showing) → has_number id k.dated ≡ true
     → cast_row table (drop 1 (shows (col 1 0 ∷ project) (count_value id ∷ params) k.row))
     ≡ dated_row (next k.dated))
-    (s : Sets request.tree numbered_test (col 1 0 ∷ project) (count_value id ∷ params) table old new)
+    (s : Sets request.tree numbered_test (col 1 0 ∷ project) (count_value id ∷ params) table old
+    new)
     {xs : List Dated} (has : old.schema ≡ desk_schema) (shown : ShowsDated xs old)
   where
     abbrev others : List Dated
@@ -240,10 +243,12 @@ module _ (id : ℕ) (project : List Term) (params : Row) (table : Table) (next :
         let k = one.0 in
         let so : has_number id k.dated ≡ true = passes_one (has_number id) xs k.dated one.2 in
         let same : k.dated.0.id ≡ id = eqb-true k.dated.0.id id so in
-        let number : id_in (rowid (shows (col 1 0 ∷ project) (count_value id ∷ params) s.it)) ≡ pos id =
+        let number
+        : id_in (rowid (shows (col 1 0 ∷ project) (count_value id ∷ params) s.it)) ≡ pos id =
         ap (λ r. id_in (column r 0)) one.1 ∙ ap id_in (number_at k) ∙ ap pos same in
         let set = s.goes (pos id) (dated_row (next k.dated)) number
-        (ap (λ r. cast_row table (drop 1 (shows (col 1 0 ∷ project) (count_value id ∷ params) r))) one.1
+        (ap (λ r. cast_row table (drop 1 (shows (col 1 0 ∷ project) (count_value id ∷ params) r)))
+        one.1
         ∙ to k so) in
         let left = spells_part before (λ r. not (has_rowid (pos id) r))
         (λ x. not (has_number id x)) (λ k. ap not (has_number_at id k)) in
@@ -257,7 +262,8 @@ module _ (id : ℕ) (project : List Term) (params : Row) (table : Table) (next :
     }
 
     -- of a part of it, in its place
-    pub dated_changed : (goes : Dated → Dated) → ((x : Dated) → has_number id x ≡ false → goes x ≡ x)
+    pub dated_changed : (goes : Dated → Dated)
+        → ((x : Dated) → has_number id x ≡ false → goes x ≡ x)
         → ((x : Dated) → has_number id x ≡ true → goes x ≡ next x) → ShowsDated (map goes xs) new
     dated_changed goes stays goes_to = record {
       rows = λ still.

@@ -56,7 +56,8 @@ none_are_shown =
     record { rows = λ there. record { values = []; are = refl; same = IsPermutation-refl _ } }
 
 however_they_are_spelt :
-    ShowsDated (dated 1 (Some 60) ∷ dated 2 None ∷ []) (requests_in desk_schema (own ∷ foreign ∷ []))
+    ShowsDated (dated 1 (Some 60) ∷ dated 2 None ∷ [])
+    (requests_in desk_schema (own ∷ foreign ∷ []))
 however_they_are_spelt = record {
   rows = λ there. record {
     values = dated 1 (Some 60) ∷ dated 2 None ∷ [];
@@ -66,7 +67,8 @@ however_they_are_spelt = record {
 }
 
 in_any_order :
-    ShowsDated (dated 2 None ∷ dated 1 (Some 60) ∷ []) (requests_in desk_schema (own ∷ foreign ∷ []))
+    ShowsDated (dated 2 None ∷ dated 1 (Some 60) ∷ [])
+    (requests_in desk_schema (own ∷ foreign ∷ []))
 in_any_order = record {
   rows = λ there. record {
     values = dated 1 (Some 60) ∷ dated 2 None ∷ [];

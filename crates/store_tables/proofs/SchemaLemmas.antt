@@ -1,6 +1,7 @@
 -- A statement that changes rows makes and drops no table, whatever tables there are.
 use Rattle.std.proofs.Common.{◌≡◌, ℕ, Bool, Err, List, None, Ok, Option, Some, [], ap, arith}
-use Rattle.std.proofs.Common.{false, inl, inr, is_some, refl, slice_get, subst, sym, true, unwrap_or, ◌∙◌}
+use Rattle.std.proofs.Common.{false, inl, inr, is_some, refl, slice_get, subst, sym, true}
+use Rattle.std.proofs.Common.{unwrap_or, ◌∙◌}
 use Rattle.std.proofs.lemmas.Bool.{cases_Bool}
 use Rattle.std.specs.Prelude.{MatchBool}
 use Rattle.sqlite.specs.Clock.{timed}
@@ -79,7 +80,8 @@ module _ (limit : Option ℕ) (mode : Mode) (params : Row) (db : Database) (text
 
     -- so what counts some made or dropped none
     redefines_none : (k : Command) (returning : Option Returning) (n : ℕ) → tally.rows ≡ Some n
-        → MatchBool (is_some returning) (Refuses {A = Tally × Database} InvalidQuery (Ok (tally, after)))
+        → MatchBool (is_some returning)
+        (Refuses {A = Tally × Database} InvalidQuery (Ok (tally, after)))
         (Redefines limit mode params db text k (Ok (tally, after))) → after.schema ≡ db.schema
     redefines_none k None n some h = absurd (let e = sym (redefines k h) ∙ some in cc)
     redefines_none k (Some what) n some h = absurd (cc)

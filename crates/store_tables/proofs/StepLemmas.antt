@@ -24,7 +24,8 @@ does_ran : {X : Type 0} {P : X → Type 0} {old new : State} {change : Contents 
     (r : Result X StoreFault) → StatementRuns P old new r
     → ((x : X) → P x → IsTrue old.is_open × (new.in_transaction ≡ true)
     × (new.now.schema ≡ old.now.schema)
-    × (old.now.schema ≡ desk_schema → Turns change old.now new.now)) → StatementChanges change old new r
+    × (old.now.schema ≡ desk_schema → Turns change old.now new.now))
+    → StatementChanges change old new r
 does_ran {old = old} {new} {change} (Ok x) runs so =
     let makes : Makes change old new (Ok x) = λ now holds c o.
     let it = so x (runs.ran c) in

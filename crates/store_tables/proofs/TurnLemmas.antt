@@ -36,7 +36,8 @@ module _ {change : Contents → Contents} {old new : Database} (has : old.schema
     module _ {K V : Type 0} (n : TableOf K V) (other : (request.tree == n.tree) ≡ false) where
       -- where a row is put in
       pub puts_beside : (k : K) → n.IsValue (n.view (n.value k)) → Added n.tree (n.row k) old new
-          → ((c : Contents) → Kept n (n.value k ∷ n.list c) new → Changed n.tree (change c) c old new)
+          → ((c : Contents) → Kept n (n.value k ∷ n.list c) new
+          → Changed n.tree (change c) c old new)
           → Turns change old new
       puts_beside k row it now = turns_beside n.tree other it.others
           (λ c t. puts n t (change c) k row it (now c))

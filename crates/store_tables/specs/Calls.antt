@@ -132,10 +132,9 @@ pub record StatementRuns {X : Type 0} (P : X → Type 0) (old new : State) (resu
   pub refused : IfErr result (λ e. e ≡ Refused)
 
 -- What a statement or a row of them does in a transaction: of whatever the tables hold it makes
--- `change`, and of whatever requests they show, whatever rows their other tables have. Whatever rows
--- they have, the last commit stays, and the transaction goes on where nothing is refused. A disk
--- that is clean after it was clean before, and the connection lasts. A fault is that the store or
--- memory refused it.
+-- `change`, and of whatever requests they show. Whatever rows they have, the last commit stays, and
+-- the transaction goes on where nothing is refused. A disk that is clean after it was clean before,
+-- and the connection lasts. A fault is that the store or memory refused it.
 pub record StatementChanges {X : Type 0} (change : Contents → Contents) (old new : State)
     (result : Result X StoreFault) : Type 0 where
   pub makes : Makes change old new result

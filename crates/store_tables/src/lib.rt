@@ -16,9 +16,9 @@
 //! `Kept` and `Stands` how far tables are made and what they stand for, `Dated` which requests they
 //! show, whatever rows the other tables have. Of `proofs/`, `then`, `giving`, `telling` and
 //! `failed_at` put readings together (`ReadOn`), `does_both`, `does_more` and `does_all` writes
-//! (`StepLemmas`). Where tables stand for a desk a read is never a mismatch (`blames_none`), and what
-//! stood before stands afterwards (`stands`, `stands_for` of `Spared`). `ShownDated` follows the
-//! requests that tables show from call to call.
+//! (`StepLemmas`). Where tables stand for a desk a read is never a mismatch (`blames_none`), and
+//! what stood before stands afterwards (`stands`, `stands_for` of `Spared`). `ShownDated` follows
+//! the requests that tables show from call to call.
 #![tactic(auto)]
 
 mod at_rest;

@@ -2,7 +2,8 @@ use Rattle.store_tables.proofs.StepLemmas.{does_one}
 use Rattle.std.proofs.Common.{Option, refl, ℕ, Ok, ◌≡◌}
 use Rattle.sqlite.specs.State.{State, Executes}
 use Rattle.desk_model.specs.declared.rows.RequestRow.{RequestRow}
-use Rattle.store_tables.specs.Contents.Request.{IsDatedRow, add_request_text, dated_row, dated_shown, request}
+use Rattle.store_tables.specs.Contents.Request.{IsDatedRow, add_request_text, dated_row, request}
+use Rattle.store_tables.specs.Contents.Request.{dated_shown}
 use Rattle.store_tables.specs.Contents.Request.{add_request_terms}
 use Rattle.store_tables.specs.Contents.{add_request, desk_schema}
 use Rattle.store_tables.proofs.ChangeLemmas.{Added, adds, cast_null, cast_int, cast_text}

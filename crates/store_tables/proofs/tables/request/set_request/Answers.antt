@@ -29,7 +29,8 @@ module _ (old new : State) (has : old.now.schema ≡ desk_schema) where
       → Executes set_request_text (dated_shown (r, due)) old new (Ok 1)
       → Turns (λ d. set_request d r due) old.now new.now
   sets_request r due is h =
-      let s : Sets request.tree numbered_test set_request_terms (dated_shown (r, due)) request old.now new.now =
+      let s : Sets request.tree numbered_test set_request_terms (dated_shown (r, due)) request
+      old.now new.now =
       sets _ _ _ _ _ request old new refl refl has set_request_is (λ a b. refl) h in
       record {
         makes = λ d t. gives_way dated_table t (set_request d r due) _ _ _ (has_number r.id)

@@ -22,8 +22,10 @@ add_entry_is = record { is = refl; plain = (refl, refl) }
 
 module _ (old new : State) (has : old.now.schema ≡ desk_schema) where
   adds_entry : (e : Entry) → IsEntryRow (entry_columns e)
-      → Executes add_entry_text (entry_columns e) old new (Ok 1) → Turns (λ d. add_entry d e) old.now new.now
-  adds_entry e row h = puts_beside has (λ d. refl) entry_table refl (next_rowid (old.now.trees entry.tree), e) row
+      → Executes add_entry_text (entry_columns e) old new (Ok 1)
+      → Turns (λ d. add_entry d e) old.now new.now
+  adds_entry e row h = puts_beside has (λ d. refl) entry_table refl
+      (next_rowid (old.now.trees entry.tree), e) row
       (adds _ _ _ _ _ entry _ old new 1 add_entry_is refl refl
       (simp (cast_null, cast_int)) has h) (λ d now. assumption)
 

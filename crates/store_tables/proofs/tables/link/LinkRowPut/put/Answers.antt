@@ -22,8 +22,10 @@ add_link_is = record { is = refl; plain = (refl, refl) }
 
 module _ (old new : State) (has : old.now.schema ≡ desk_schema) where
   adds_link : (l : LinkRow) → IsLinkRow (link_columns l)
-      → Executes add_link_text (link_columns l) old new (Ok 1) → Turns (λ d. add_link d l) old.now new.now
-  adds_link l row h = puts_beside has (λ d. refl) link_table refl (next_rowid (old.now.trees link.tree), l) row
+      → Executes add_link_text (link_columns l) old new (Ok 1)
+      → Turns (λ d. add_link d l) old.now new.now
+  adds_link l row h = puts_beside has (λ d. refl) link_table refl
+      (next_rowid (old.now.trees link.tree), l) row
       (adds _ _ _ _ _ link _ old new 1 add_link_is refl refl
       (simp (cast_null, cast_int)) has h) (λ d now. assumption)
 

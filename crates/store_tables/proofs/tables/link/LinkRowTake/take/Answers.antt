@@ -25,7 +25,8 @@ drop_link_is = record { is = refl; plain = (refl, refl) }
 module _ (old new : State) (has : old.now.schema ≡ desk_schema) where
   drops_link : (l : LinkRow) → Executes drop_link_text (link_columns l) old new (Ok 1)
       → Turns (λ d. drop_link d l) old.now new.now
-  drops_link l h = takes_beside has (λ d. refl) link_table refl _ _ _ (is_link l) (λ k. k.0) (λ k. refl)
+  drops_link l h = takes_beside has (λ d. refl) link_table refl _ _ _ (is_link l) (λ k. k.0)
+      (λ k. refl)
       (λ k. refl) (λ k. simp (equal_numbers, and_true))
       (drops _ _ _ _ (col 1 0 ∷ []) link old new refl refl has drop_link_is (λ a. refl) h)
       (λ d now. assumption)

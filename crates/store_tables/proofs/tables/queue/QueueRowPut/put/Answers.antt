@@ -22,8 +22,10 @@ add_queue_is = record { is = refl; plain = (refl, refl) }
 
 module _ (old new : State) (has : old.now.schema ≡ desk_schema) where
   adds_queue : (q : QueueRow) → IsQueueRow (queue_columns q)
-      → Executes add_queue_text (queue_columns q) old new (Ok 1) → Turns (λ d. add_queue d q) old.now new.now
-  adds_queue q row h = puts_beside has (λ d. refl) queue_table refl (next_rowid (old.now.trees queue.tree), q) row
+      → Executes add_queue_text (queue_columns q) old new (Ok 1)
+      → Turns (λ d. add_queue d q) old.now new.now
+  adds_queue q row h = puts_beside has (λ d. refl) queue_table refl
+      (next_rowid (old.now.trees queue.tree), q) row
       (adds _ _ _ _ _ queue _ old new 1 add_queue_is refl refl
       (simp (cast_null, cast_text)) has h) (λ d now. assumption)
 

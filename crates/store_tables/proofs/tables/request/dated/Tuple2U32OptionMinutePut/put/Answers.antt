@@ -20,7 +20,7 @@ use Rattle.store_tables.proofs.DueLemmas.{none_moved}
 use Rattle.store_tables.proofs.TestLemmas.{equal_numbers}
 use Rattle.store_tables.proofs.ReadLemmas.{none_held}
 use Rattle.store_tables.proofs.Contents.{tables_now}
-use Rattle.store_tables.proofs.ChangeLemmas.{Sets, sets, cast_null, cast_int, cast_text, misses, apart}
+use Rattle.store_tables.proofs.ChangeLemmas.{Sets, sets, cast_null, cast_int, cast_text, misses}
 use Rattle.store_tables.proofs.ValueLemmas.{values_of}
 use Rattle.store_tables.proofs.Contents.Request.{dated_table}
 use Rattle.sqlite_tied.specs.Compute.{everything}
