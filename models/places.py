@@ -202,8 +202,8 @@ def misnamed(table):
         for right in grant["rights"]:
             if not is_right(right):
                 return f"`{right}` in [[grant]] {number}"
-        if grant["rights"] and "queue" in grant and not is_name(grant["queue"]):
-            return f"`{grant['queue']}` in [[grant]] {number}"
+            if "queue" in grant and not is_name(grant["queue"]):
+                return f"`{grant['queue']}` in [[grant]] {number}"
     return None
 
 

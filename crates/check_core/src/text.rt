@@ -37,9 +37,9 @@ fn fault_told(alloc: Global, placed: &PlacedFault) -> Result<String, AllocError>
     let table = &placed.table;
     match placed.place(alloc)? {
         Some(place) => {
-            let interval = interval_at(table, fault, place);
+            let interval = interval_at(table, fault, &place);
             let told = Told {
-                place,
+                place: &place,
                 fault,
                 table,
                 interval,
@@ -54,11 +54,11 @@ fn fault_told(alloc: Global, placed: &PlacedFault) -> Result<String, AllocError>
 fn interval_at<'t>(
     table: &'t Table,
     fault: SettingsFault,
-    place: FaultPlace<'t>,
+    place: &FaultPlace<'t>,
 ) -> Option<BadInterval<'t>> {
     match (fault, place) {
         (SettingsFault::Hours(HoursFault::BadInterval), FaultPlace::Calendar(name)) => bad_interval(
-            named(table, "calendar", name)?,
+            named(table, "calendar", *name)?,
         ),
         _ => None,
     }

@@ -11,13 +11,14 @@ use settings_form::walk::KeyAt;
 use settings_parts::values::array_at;
 use settings_places::place::FaultPlace;
 use std::fmt;
+use text_core::Text;
 use toml::{Table, Value};
 
 /// A fault of settings and its place in their table. It is told by both, as ``the person `Ann`: a
 /// name is ..``.
 #[derive(Clone, Copy)]
 pub struct Told<'t> {
-    pub place: FaultPlace<'t>,
+    pub place: &'t FaultPlace<'t>,
     pub fault: SettingsFault,
     pub table: &'t Table,
     /// The interval of a calendar that isn't in order, where that is the fault.
@@ -38,7 +39,7 @@ impl fmt::Display for Told<'_> {
                 f,
                 "{}",
                 KeyFault {
-                    found,
+                    found: *found,
                     fault,
                     table,
                 }
@@ -48,14 +49,19 @@ impl fmt::Display for Told<'_> {
                     Some(interval) => write!(f, "{interval}"),
                     None => write!(f, "{}", Inner { fault }),
                 },
-            FaultPlace::PersonTwice(name) | FaultPlace::PersonAndGroup(name) => write!(
+            FaultPlace::PersonTwice(name) => write!(f, "{}", Twice { name, table }),
+            FaultPlace::PersonAndGroup(name) => write!(f, "{}", Shared { name, table }),
+            FaultPlace::Limit(level, key) => write!(
                 f,
                 "{}",
-                Repeated { place, name, table }
+                LimitFault {
+                    table,
+                    level: *level,
+                    key: *key,
+                }
             ),
-            FaultPlace::Limit(level, key) => write!(f, "{}", LimitFault { table, level, key }),
-            FaultPlace::Count(key) => write!(f, "{}", CountFault { table, key }),
-            _ => f.write_str(why_of(&place)),
+            FaultPlace::Count(key) => write!(f, "{}", CountFault { table, key: *key }),
+            _ => f.write_str(why_of(place)),
         }
     }
 }
@@ -77,30 +83,41 @@ fn why_of(place: &FaultPlace<'_>) -> &'static str {
     }
 }
 
-/// A name that stands twice, and both places.
+/// A name that two persons have.
 #[derive(Clone, Copy)]
-struct Repeated<'t> {
-    place: FaultPlace<'t>,
-    name: &'t str,
+struct Twice<'t> {
+    name: &'t Text,
     table: &'t Table,
 }
 
-impl fmt::Display for Repeated<'_> {
+impl fmt::Display for Twice<'_> {
     fn fmt<W: fmt::Write>(&self, f: &mut fmt::Formatter<W>) -> fmt::Result {
         let Some(persons) = array_at(self.table, "persons") else {
             return f.write_str("this name stands twice");
         };
-        let first = number_of(persons, self.name, 0);
-        match self.place {
-            FaultPlace::PersonTwice(name) => {
-                let second = number_of(persons, name, first);
-                write!(f, "it is name {first} and name {second} of `persons`")
-            }
-            _ => write!(
-                f,
-                "it is name {first} of `persons`, and a group of [groups]"
-            ),
-        }
+        let first = number_of(persons, self.name.as_str(), 0);
+        let second = number_of(persons, self.name.as_str(), first);
+        write!(f, "it is name {first} and name {second} of `persons`")
+    }
+}
+
+/// A name that a person and a group have.
+#[derive(Clone, Copy)]
+struct Shared<'t> {
+    name: &'t Text,
+    table: &'t Table,
+}
+
+impl fmt::Display for Shared<'_> {
+    fn fmt<W: fmt::Write>(&self, f: &mut fmt::Formatter<W>) -> fmt::Result {
+        let Some(persons) = array_at(self.table, "persons") else {
+            return f.write_str("this name stands twice");
+        };
+        let first = number_of(persons, self.name.as_str(), 0);
+        write!(
+            f,
+            "it is name {first} of `persons`, and a group of [groups]"
+        )
     }
 }
 

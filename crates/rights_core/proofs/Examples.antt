@@ -9,7 +9,7 @@ use Rattle.rights_core.specs.Right.{show_ticket_comments, modify_ticket, reply_t
 use Rattle.rights_core.specs.Right.{comment_on_ticket, own_ticket, take_ticket, steal_ticket}
 use Rattle.rights_core.specs.Right.{reassign_ticket, delete_ticket, watch, watch_as_admin_cc}
 use Rattle.rights_core.specs.Right.{admin_queue, super_user}
-use Rattle.rights_core.specs.RightsFaults.{fault_of, name_of, number_of}
+use Rattle.rights_core.specs.RightsFaults.{fault_of, misname, name_of, number_of, stranger}
 use Rattle.rights_core.specs.declared.fault.RightsFault.TheVariants.{BadName, Repeated}
 use Rattle.rights_core.specs.declared.fault.RightsFault.TheVariants.{UnknownMember, UnknownSubject}
 use Rattle.rights_core.specs.declared.fault.RightsFault.TheVariants.{NoMemory}
@@ -240,6 +240,33 @@ name_of_the_third_fault = refl
 
 name_of_the_last_fault : name_of NoMemory ≡ codes "NoMemory"
 name_of_the_last_fault = refl
+
+-- RightsFaults.antt: what a fault is of
+
+right_before_queue : misname (grant (codes "Own-It") Everyone (Some (codes "Help")))
+    ≡ Some (codes "Own-It")
+right_before_queue = refl
+
+queue_of_no_name : misname (grant (codes "OwnTicket") Everyone (Some (codes "Help")))
+    ≡ Some (codes "Help")
+queue_of_no_name = refl
+
+right_and_queue_of_names : misname (grant (codes "OwnTicket") Everyone (Some (codes "help")))
+    ≡ None
+right_and_queue_of_names = refl
+
+right_for_all_queues : misname (grant (codes "OwnTicket") Everyone None) ≡ None
+right_for_all_queues = refl
+
+-- `ann` is a person and `desk` a group
+first_of_two_strangers :
+    stranger (codes "ann" ∷ []) groups
+    (codes "ann" ∷ codes "desk" ∷ codes "zed" ∷ codes "yan" ∷ [])
+    ≡ Some (codes "zed")
+first_of_two_strangers = refl
+
+no_stranger : stranger (codes "ann" ∷ []) groups (codes "ann" ∷ codes "desk" ∷ []) ≡ None
+no_stranger = refl
 
 -- RightsFaults.antt: the least fault
 

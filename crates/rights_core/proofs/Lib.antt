@@ -1,6 +1,7 @@
 pub mod Around
 pub mod Chains
 mod Examples
+pub mod Failing
 pub mod Given
 pub mod Kept
 pub mod Listed

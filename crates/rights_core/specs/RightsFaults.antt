@@ -1,6 +1,7 @@
 -- Which persons, groups and grants make no people, and the numbers and names of their faults.
 use Rattle.std.specs.Prelude.{ℕ, Bool, true, not, ◌&&◌, ◌||◌, List, ◌++◌, map}
-use Rattle.std.specs.Prelude.{Option, Some, None, codes, if◌then◌else◌}
+use Rattle.std.specs.Prelude.{Option, Some, None, codes, find, option_and_then}
+use Rattle.std.specs.Prelude.{if◌then◌else◌}
 use Rattle.std.specs.Option.{option_or, option_map_or}
 use Rattle.std.specs.List.{list_all, list_any}
 use Rattle.std.specs.Str.{bytes_eq}
@@ -34,6 +35,13 @@ name_of NoMemory = codes "NoMemory"
 abbrev pub has_grant_names : Grant → Bool
 has_grant_names grant = is_right_name grant.right && option_map_or is_name grant.queue true
 
+-- the right that isn't a right's name, or else the queue that isn't a name
+abbrev pub misname : Grant → Option (List ℕ)
+misname grant =
+    if is_right_name grant.right
+    then option_and_then (λ queue. if is_name queue then None else Some queue) grant.queue
+    else Some grant.right
+
 -- persons, groups, rights and queues are named as they may be
 abbrev pub has_names : Parts → Bool
 has_names parts =
@@ -55,6 +63,11 @@ repeats_name persons groups = repeats_text (persons ++ group_names groups)
 abbrev pub has_known_members : List (List ℕ) → List Group → Group → Bool
 has_known_members persons groups group =
     list_all (λ name. is_among persons name || has_group groups name) group.members
+
+-- the first of the members that is neither a person nor a group
+abbrev pub stranger : List (List ℕ) → List Group → List (List ℕ) → Option (List ℕ)
+stranger persons groups members =
+    find (λ name. not (is_among persons name || has_group groups name)) members
 
 -- the person or the group that a grant is for is there
 abbrev pub is_there : List (List ℕ) → List Group → Subject → Bool

@@ -1,7 +1,8 @@
 //! The faults of persons, groups and grants.
 
-ghost use Rattle.std.specs.Prelude.{◌≡◌, ◌≢◌, ◌||◌, IfSome};
-ghost use Rattle.std.specs.List.{list_all};
+ghost use Rattle.std.specs.Prelude.{◌≡◌, ◌≢◌, ◌||◌, IfSome, find, is_some, not};
+ghost use Rattle.std.specs.List.{list_all, position};
+ghost use Rattle.std.specs.Option.{option_copied};
 ghost use Rattle.rights_core.specs.People as words;
 ghost use Rattle.rights_core.specs.RightsFaults as faults;
 ghost use Rattle.text_core.specs.Form.{is_name as is_name_of};
@@ -43,35 +44,50 @@ pub(crate) fn fault_of(
 fn has_names(persons: &[Text], groups: &[Group], grants: &[Grant]) -> bool
     ensures { result ≡ faults.has_names (words.parts_of persons.now groups.now grants.now) }
 {
-    are_names(persons) && have_names(groups) && have_grant_names(grants)
+    misnamed_person(persons).is_none()
+        && misnamed_group(groups).is_none()
+        && misnamed_grant(grants).is_none()
 }
 
-fn are_names(texts: &[Text]) -> bool
-    ensures { result ≡ list_all is_name_of texts.now }
+/// The first person whose name isn't a name.
+pub fn misnamed_person(persons: &[Text]) -> Option<&Text>
+    ensures { option_copied result ≡ find (λ name. not (is_name_of name)) persons.now }
 {
-    texts.iter().all(|t| is_name(t.as_str()))
+    persons.iter().find(|t| !is_name(t.as_str()))
 }
 
-fn have_names(groups: &[Group]) -> bool
-    ensures { result ≡ list_all (λ g. is_name_of g.name) groups.now }
+/// The first group whose name isn't a name.
+pub fn misnamed_group(groups: &[Group]) -> Option<&Group>
+    ensures { option_copied result ≡ find (λ g. not (is_name_of g.name)) groups.now }
 {
-    groups.iter().all(|g| is_name(g.name.as_str()))
+    groups.iter().find(|g| !is_name(g.name.as_str()))
 }
 
-fn have_grant_names(grants: &[Grant]) -> bool
-    ensures { result ≡ list_all faults.has_grant_names grants.now }
+/// Which grant, from 0, is the first of a right that isn't a right's name, or for a queue whose name
+/// isn't a name.
+pub fn misnamed_grant(grants: &[Grant]) -> Option<usize>
+    ensures { result ≡ position (λ g. not (faults.has_grant_names g)) grants.now }
 {
-    grants.iter().all(|g| has_grant_names(g))
+    grants.iter().position(|g| !has_grant_names(g))
 }
 
 fn has_grant_names(grant: &Grant) -> bool
     ensures { result ≡ faults.has_grant_names grant.now }
 {
-    is_right_name(grant.right.as_str())
-        && match &grant.queue {
-            Some(queue) => is_name(queue.as_str()),
-            None => true,
-        }
+    misname(grant).is_none()
+}
+
+/// The right of a grant where that isn't a right's name, or else the queue where that isn't a name.
+pub fn misname(grant: &Grant) -> Option<&Text>
+    ensures { option_copied result ≡ faults.misname grant.now }
+{
+    if !is_right_name(grant.right.as_str()) {
+        return Some(&grant.right);
+    }
+    match &grant.queue {
+        Some(queue) if !is_name(queue.as_str()) => Some(queue),
+        _ => None,
+    }
 }
 
 /// Whether each member of a group is a person or a group.
@@ -80,17 +96,25 @@ fn knows_members(directory: &Directory, groups: &[Group]) -> bool
         (faults.has_known_members directory.now.0 directory.now.1)
         groups.now }
 {
-    groups.iter().all(|g| has_known_members(directory, g))
+    group_of_stranger(directory, groups).is_none()
 }
 
-fn has_known_members(directory: &Directory, group: &Group) -> bool
-    ensures { result ≡ faults.has_known_members directory.now.0 directory.now.1 group.now }
+/// The first group with a member that is neither a person nor a group.
+pub fn group_of_stranger<'g>(directory: &Directory, groups: &'g [Group]) -> Option<&'g Group>
+    ensures { option_copied result
+        ≡ find (λ g. is_some (faults.stranger directory.now.0 directory.now.1 g.members)) groups.now }
 {
-    group
-        .members
-        .as_slice()
+    groups
         .iter()
-        .all(|m| has_either(directory, m.as_str()))
+        .find(|g| stranger(directory, g.members.as_slice()).is_some())
+}
+
+/// The first member that is neither a person nor a group.
+pub fn stranger<'m>(directory: &Directory, members: &'m [Text]) -> Option<&'m Text>
+    ensures { option_copied result
+        ≡ faults.stranger directory.now.0 directory.now.1 members.now }
+{
+    members.iter().find(|m| !has_either(directory, m.as_str()))
 }
 
 /// Whether a person or a group has this name.
@@ -106,7 +130,15 @@ fn knows_subjects(directory: &Directory, grants: &[Grant]) -> bool
     ensures { result
         ≡ list_all (λ g. faults.is_there directory.now.0 directory.now.1 g.subject) grants.now }
 {
-    grants.iter().all(|g| is_there(directory, &g.subject))
+    grant_to_none(directory, grants).is_none()
+}
+
+/// Which grant, from 0, is the first for a person or a group that isn't there.
+pub fn grant_to_none(directory: &Directory, grants: &[Grant]) -> Option<usize>
+    ensures { result ≡ position
+        (λ g. not (faults.is_there directory.now.0 directory.now.1 g.subject)) grants.now }
+{
+    grants.iter().position(|g| !is_there(directory, &g.subject))
 }
 
 fn is_there(directory: &Directory, subject: &Subject) -> bool

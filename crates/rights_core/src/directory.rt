@@ -15,7 +15,7 @@ use text_core::{Text, distinct, is_among, repeats_text};
 /// The persons and the groups. They are found by sets of their names, and one after the other
 /// where sets were refused memory.
 #[derive(Drop)]
-pub(crate) struct Directory<'a> {
+pub struct Directory<'a> {
     persons: &'a [Text],
     groups: &'a [Group],
     names: Option<Names>,
@@ -44,11 +44,7 @@ impl<'a> Model for Directory<'a> {
 
 impl<'a> Directory<'a> {
     /// The directory, or none where a name stands twice.
-    pub(crate) fn of(
-        alloc: Global,
-        persons: &'a [Text],
-        groups: &'a [Group],
-    ) -> Option<Directory<'a>>
+    pub fn of(alloc: Global, persons: &'a [Text], groups: &'a [Group]) -> Option<Directory<'a>>
         ensures some { is_some result ≡ not (faults.repeats_name persons.now groups.now) }
         ensures parts { IfSome result (λ d. d ≡ (persons.now, groups.now)) }
     {
@@ -64,7 +60,8 @@ impl<'a> Directory<'a> {
         })
     }
 
-    pub(crate) fn has_person(&self, name: &str) -> bool
+    /// Whether a person has this name.
+    pub fn has_person(&self, name: &str) -> bool
         ensures { result ≡ words.is_among self.now.0 name.now }
     {
         match &self.names {
@@ -73,7 +70,8 @@ impl<'a> Directory<'a> {
         }
     }
 
-    pub(crate) fn has_group(&self, name: &str) -> bool
+    /// Whether a group has this name.
+    pub fn has_group(&self, name: &str) -> bool
         ensures { result ≡ faults.has_group self.now.1 name.now }
     {
         match &self.names {
@@ -151,7 +149,7 @@ fn shares_name(persons: &[Text], groups: &[Group]) -> bool
 }
 
 /// Whether a group has this name.
-fn has_group(groups: &[Group], name: &str) -> bool
+pub fn has_group(groups: &[Group], name: &str) -> bool
     ensures { result ≡ faults.has_group groups.now name.now }
 {
     groups.iter().any(|g| g.name.as_str() == name)

@@ -7,8 +7,8 @@
 //! are names with a grant of the right.
 #![tactic(auto)]
 
-mod checks;
-mod directory;
+pub mod checks;
+pub mod directory;
 mod fault;
 mod grant;
 mod grants;

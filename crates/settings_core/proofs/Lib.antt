@@ -1,4 +1,5 @@
 mod Examples
+pub mod Bounds
 pub mod Built
 pub mod Empty
 pub mod Faults

@@ -3,6 +3,7 @@ pub mod Calendars
 pub mod Fault
 pub mod Lifecycles
 pub mod Levels
+pub mod Limits
 pub mod Named
 pub mod Names
 pub mod Reading

@@ -10,6 +10,7 @@ use Rattle.rights_core.specs.declared.parts.Parts as rights
 use Rattle.settings_parts.specs.declared.people.Token.{Token}
 use Rattle.settings_core.specs.Named.{under}
 use Rattle.settings_core.specs.Tokens.{person_under}
+use Rattle.settings_core.specs.declared.calendars.Opening.{Opening}
 use Rattle.settings_core.specs.declared.named.Named.{Named}
 use Rattle.settings_core.specs.declared.settings.Settings.{Settings}
 
@@ -32,6 +33,10 @@ lifecycles_of settings = settings.lifecycles
 -- all levels with their names
 abbrev pub levels_of : Settings → List (Named Level)
 levels_of settings = settings.levels
+
+-- all calendars with their names and zones
+abbrev pub calendars_of : Settings → List (Named Opening)
+calendars_of settings = settings.calendars
 
 -- the calendar of that name, if there is one
 abbrev pub calendar_named : Settings → List ℕ → Option Calendar

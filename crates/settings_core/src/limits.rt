@@ -2,13 +2,12 @@
 
 ghost use Rattle.std.specs.Prelude.{◌≡◌};
 ghost use Rattle.toml.specs.View.{view, table_view};
-ghost use Rattle.settings_parts.specs.LevelParts.{has_limits as has_limits_in};
-ghost use Rattle.settings_parts.specs.Values.{members_of, table_at as members_at};
-ghost use Rattle.settings_core.specs.Levels.{have_limits};
+ghost use Rattle.std.specs.Option.{option_copied, option_map};
+ghost use Rattle.settings_parts.specs.Values.{members_of};
+ghost use Rattle.settings_core.specs.Limits as limits;
 ghost use Rattle.settings_core.specs.Reading as spec;
-ghost use Rattle.std.specs.Prelude.{codes};
 
-use settings_parts::level::{self, is_from_one, number_up_to};
+use settings_parts::level::{has_limit_at, is_from_one, number_up_to};
 use settings_parts::values::{integer_at, table_at, table_of};
 use toml::{Table, Value};
 
@@ -30,7 +29,7 @@ pub fn count_at(table: &Table, key: &str, most: u32) -> u32
 }
 
 /// Whether the number at a key, if there is one, is from 1 to the most.
-pub fn is_count_at(table: &Table, key: &str, most: u32) -> bool
+fn is_count_at(table: &Table, key: &str, most: u32) -> bool
     ensures { result ≡ spec.is_count_at key.now most (table_view table.now) }
 {
     match integer_at(table, key) {
@@ -43,37 +42,65 @@ pub fn is_count_at(table: &Table, key: &str, most: u32) -> bool
 pub fn has_limits(table: &Table) -> bool
     ensures { result ≡ spec.has_limits (table_view table.now) }
 {
-    levels_have_limits(table)
-        && is_count_at(table, "max_requests", MAX_REQUESTS)
-        && is_count_at(table, "max_entries", MAX_ENTRIES)
+    bad_limit(table).is_none() && bad_count(table).is_none()
 }
 
-fn levels_have_limits(table: &Table) -> bool
-    ensures { result ≡ have_limits (members_at (codes "level") (table_view table.now)) }
+/// The first limit of a level that has both units or isn't from 1 to 525,600 minutes: the name of
+/// the level, and the limit's key.
+pub fn bad_limit(table: &Table) -> Option<(&str, &'static str)>
+    ensures { option_map (λ f. (f.0.now, f.1.now)) result ≡ limits.bad_limit (table_view table.now) }
 {
     match table_at(table, "level") {
-        Some(levels) => have_limits(levels),
-        None => true,
+        Some(levels) => bad_limit_in(levels),
+        None => None,
     }
 }
 
-/// Whether the limits of each level of a table are such.
-fn have_limits(table: &Table) -> bool
-    ensures { result ≡ have_limits (table_view table.now) }
+fn bad_limit_in(levels: &Table) -> Option<(&str, &'static str)>
+    ensures { option_map (λ f. (f.0.now, f.1.now)) result
+        ≡ limits.bad_limit_in (table_view levels.now) }
 {
-    for (_name, value) in table.iter() {
-        if !level_has_limits(value) {
-            return false;
+    for (name, value) in levels.iter() {
+        if let Some(key) = bad_limit_of(value) {
+            return Some((name.as_str(), key));
         }
     }
-    true
+    None
 }
 
-fn level_has_limits(value: &Value) -> bool
-    ensures { result ≡ has_limits_in (members_of (view value.now)) }
+fn bad_limit_of(level: &Value) -> Option<&'static str>
+    ensures { option_copied result ≡ limits.bad_key (members_of (view level.now)) }
 {
-    match table_of(value) {
-        Some(table) => level::has_limits(table),
-        None => true,
+    match table_of(level) {
+        Some(table) => bad_key(table),
+        None => None,
+    }
+}
+
+/// The key of the first limit of a level that is out of its bounds.
+fn bad_key(level: &Table) -> Option<&'static str>
+    ensures { option_copied result ≡ limits.bad_key (table_view level.now) }
+{
+    if !has_limit_at(level, "response") {
+        Some("response")
+    } else if !has_limit_at(level, "keep_in_loop") {
+        Some("keep_in_loop")
+    } else if !has_limit_at(level, "resolve") {
+        Some("resolve")
+    } else {
+        None
+    }
+}
+
+/// Which of `max_requests` and `max_entries` is the first that is out of its bounds.
+pub fn bad_count(table: &Table) -> Option<&'static str>
+    ensures { option_copied result ≡ limits.bad_count (table_view table.now) }
+{
+    if !is_count_at(table, "max_requests", MAX_REQUESTS) {
+        Some("max_requests")
+    } else if !is_count_at(table, "max_entries", MAX_ENTRIES) {
+        Some("max_entries")
+    } else {
+        None
     }
 }

@@ -1,9 +1,11 @@
 //! Whether the names of a settings text are known.
 
-ghost use Rattle.std.specs.Prelude.{◌≡◌, ◌||◌, IfOk};
+ghost use Rattle.std.specs.Prelude.{◌≡◌, ◌||◌, IfOk, find, is_some, not};
 ghost use Rattle.std.specs.HashSet.{contains_text};
-ghost use Rattle.std.specs.List.{list_all};
+ghost use Rattle.std.specs.List.{position};
+ghost use Rattle.std.specs.Option.{option_copied};
 ghost use Rattle.toml.specs.View.{table_view};
+ghost use Rattle.rights_core.specs.People.{knows};
 ghost use Rattle.rights_core.specs.Right.{standard_rights};
 ghost use Rattle.text_core.specs.Texts.{is_among};
 ghost use Rattle.settings_core.specs.Names as spec;
@@ -27,20 +29,35 @@ pub fn knows_rights(
 ) -> Result<bool, AllocError>
     ensures { IfOk result (λ knows. knows ≡ spec.knows_rights lifecycles.now grants.now) }
 {
-    let named = rights_of(alloc, lifecycles)?;
-    Ok(are_known(&named, grants))
+    Ok(unknown_right(alloc, lifecycles, grants)?.is_none())
 }
 
-/// Whether each granted right is standard or one of these.
-fn are_known(named: &Names, grants: &[Grant]) -> bool
-    ensures { result ≡ list_all (λ g. is_among standard_rights g.right
-        || contains_text named.now g.right) grants.now }
+/// Which grant, from 0, is the first of a right that is neither standard nor named in the rights of
+/// a lifecycle.
+pub fn unknown_right(
+    alloc: Global,
+    lifecycles: &[Named<Lifecycle>],
+    grants: &[Grant],
+) -> Result<Option<usize>, AllocError>
+    ensures { IfOk result (λ at. at
+        ≡ position (λ g. not (spec.knows_right lifecycles.now g.right)) grants.now) }
 {
-    grants.iter().all(|g| is_known(named, g.right.as_str()))
+    let named = rights_of(alloc, lifecycles)?;
+    Ok(right_beside(&named, grants))
+}
+
+/// Which grant, from 0, is the first of a right that is neither standard nor one of these.
+fn right_beside(named: &Names, grants: &[Grant]) -> Option<usize>
+    ensures { result ≡ position (λ g. not (is_among standard_rights g.right
+        || contains_text named.now g.right)) grants.now }
+{
+    grants
+        .iter()
+        .position(|g| !is_known(named, g.right.as_str()))
 }
 
 /// Whether the right is standard or one of these.
-pub fn is_known(named: &Names, right: &str) -> bool
+fn is_known(named: &Names, right: &str) -> bool
     ensures { result ≡ (is_among standard_rights right.now || contains_text named.now right.now) }
 {
     right::is_standard(right) || named.contains(right)
@@ -50,13 +67,20 @@ pub fn is_known(named: &Names, right: &str) -> bool
 pub fn knows_calendars(table: &Table, levels: &[Named<Level>]) -> bool
     ensures { result ≡ spec.knows_calendars (table_view table.now) levels.now }
 {
-    levels
-        .iter()
-        .all(|l| knows_calendar(table, l.value.calendar.as_str()))
+    unknown_calendar(table, levels).is_none()
 }
 
-/// Whether the calendar is one of the text's, or the calendar `default`.
-pub fn knows_calendar(table: &Table, name: &str) -> bool
+/// The first level whose calendar is neither one of the text's nor the calendar `default`.
+pub fn unknown_calendar<'l>(table: &Table, levels: &'l [Named<Level>]) -> Option<&'l Named<Level>>
+    ensures { option_copied result
+        ≡ find (λ l. not (spec.knows_calendar (table_view table.now) l.value.calendar)) levels.now }
+{
+    levels
+        .iter()
+        .find(|l| !knows_calendar(table, l.value.calendar.as_str()))
+}
+
+fn knows_calendar(table: &Table, name: &str) -> bool
     ensures { result ≡ spec.knows_calendar (table_view table.now) name.now }
 {
     name == STANDARD || has_calendar(table, name)
@@ -80,28 +104,34 @@ pub fn knows_ignored(
     ensures { IfOk result (λ knows. knows ≡ spec.knows_ignored lifecycles.now levels.now) }
 {
     let statuses = statuses_of(alloc, lifecycles)?;
-    Ok(ignore_these(&statuses, levels))
+    Ok(ignoring_other(&statuses, levels).is_none())
 }
 
-/// Whether levels ignore no other statuses than these.
-fn ignore_these(statuses: &Names, levels: &[Named<Level>]) -> bool
-    ensures { result
-        ≡ list_all (λ l. list_all (contains_text statuses.now) l.value.ignore) levels.now }
+/// The first level that ignores another status than these.
+pub fn ignoring_other<'l>(statuses: &Names, levels: &'l [Named<Level>]) -> Option<&'l Named<Level>>
+    ensures { option_copied result ≡ find
+        (λ l. is_some (find (λ s. not (contains_text statuses.now s)) l.value.ignore)) levels.now }
 {
-    levels
-        .iter()
-        .all(|l| has_all(statuses, l.value.ignore.as_slice()))
+    levels.iter().find(|l| other_status(statuses, l.value.ignore.as_slice()).is_some())
 }
 
-fn has_all(names: &Names, texts: &[Text]) -> bool
-    ensures { result ≡ list_all (contains_text names.now) texts.now }
+/// The first status that is none of these.
+pub fn other_status<'s>(statuses: &Names, ignored: &'s [Text]) -> Option<&'s Text>
+    ensures { option_copied result ≡ find (λ s. not (contains_text statuses.now s)) ignored.now }
 {
-    texts.iter().all(|t| names.contains(t.as_str()))
+    ignored.iter().find(|s| !statuses.contains(s.as_str()))
 }
 
 /// Whether the person of each token is known.
 pub fn knows_persons(people: &People, tokens: &[Token]) -> bool
     ensures { result ≡ spec.knows_persons people.now tokens.now }
 {
-    tokens.iter().all(|t| people.knows(t.person.as_str()))
+    unknown_person(people, tokens).is_none()
+}
+
+/// The first token whose person isn't known.
+pub fn unknown_person<'t>(people: &People, tokens: &'t [Token]) -> Option<&'t Token>
+    ensures { option_copied result ≡ find (λ t. not (knows people.now t.person)) tokens.now }
+{
+    tokens.iter().find(|t| !people.knows(t.person.as_str()))
 }

@@ -64,6 +64,30 @@ impl Settings {
         stated(alloc, &Table::new(alloc))
     }
 
+    /// The settings of a table without a fault of form, whose names, tokens and limits may still have a
+    /// fault; or the least fault of its calendars, its lifecycles and its people.
+    pub fn built(alloc: Global, table: &Table) -> Result<Settings, SettingsFault>
+        ensures ok { IfOk result (λ s. (spec.build_fault (table_view table.now) ≡ None)
+            × IsBuilt (table_view table.now) s) }
+        ensures err { IfErr result (λ e. e ≢ NoMemory
+            → spec.build_fault (table_view table.now) ≡ Some e) }
+    {
+        let calendars = stated_at(alloc, table, "calendar")?;
+        let lifecycles = stated_at(alloc, table, "lifecycle")?;
+        let people = people_of(alloc, table)?;
+        let levels = levels_of(alloc, table)?;
+        let tokens = tokens_of(alloc, table)?;
+        Ok(Settings {
+            people,
+            lifecycles: Sequence::from(lifecycles),
+            calendars: Sequence::from(calendars),
+            levels: Sequence::from(levels),
+            tokens: Sequence::from(tokens),
+            max_requests: count_at(table, "max_requests", MAX_REQUESTS),
+            max_entries: count_at(table, "max_entries", MAX_ENTRIES),
+        })
+    }
+
     /// The persons, their groups and their rights.
     pub fn people(&self) -> &People
         ensures { result.now ≡ words.people_of self.now }
@@ -154,36 +178,12 @@ fn stated(alloc: Global, table: &Table) -> Result<Settings, SettingsFault>
     ensures err { IfErr result (λ e. e ≢ NoMemory
         → spec.table_fault (table_view table.now) ≡ Some e) }
 {
-    let settings = built(alloc, table)?;
+    let settings = Settings::built(alloc, table)?;
     let fault = late_fault(alloc, table, &settings)?;
     match fault {
         Some(fault) => Err(fault),
         None => Ok(settings),
     }
-}
-
-/// The settings of a table by the lower builds, whose names, tokens and limits may still have a
-/// fault.
-fn built(alloc: Global, table: &Table) -> Result<Settings, SettingsFault>
-    ensures ok { IfOk result (λ s. (spec.build_fault (table_view table.now) ≡ None)
-        × IsBuilt (table_view table.now) s) }
-    ensures err { IfErr result (λ e. e ≢ NoMemory
-        → spec.build_fault (table_view table.now) ≡ Some e) }
-{
-    let calendars = stated_at(alloc, table, "calendar")?;
-    let lifecycles = stated_at(alloc, table, "lifecycle")?;
-    let people = people_of(alloc, table)?;
-    let levels = levels_of(alloc, table)?;
-    let tokens = tokens_of(alloc, table)?;
-    Ok(Settings {
-        people,
-        lifecycles: Sequence::from(lifecycles),
-        calendars: Sequence::from(calendars),
-        levels: Sequence::from(levels),
-        tokens: Sequence::from(tokens),
-        max_requests: count_at(table, "max_requests", MAX_REQUESTS),
-        max_entries: count_at(table, "max_entries", MAX_ENTRIES),
-    })
 }
 
 /// The least fault of names, tokens and limits.

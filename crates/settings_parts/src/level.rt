@@ -89,15 +89,6 @@ pub fn has_limit_at(table: &Table, key: &str) -> bool
     }
 }
 
-/// Whether each limit of a level's table has one unit, and from 1 minute to a year of them.
-pub fn has_limits(table: &Table) -> bool
-    ensures { result ≡ spec.has_limits (table_view table.now) }
-{
-    has_limit_at(table, "response")
-        && has_limit_at(table, "keep_in_loop")
-        && has_limit_at(table, "resolve")
-}
-
 /// The level that a table states.
 pub fn level_of(alloc: Global, table: &Table) -> Result<Level, AllocError>
     ensures { IfOk result (λ l. l ≡ spec.level_of (table_view table.now)) }

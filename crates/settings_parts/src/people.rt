@@ -57,7 +57,8 @@ fn push_grants(
     Ok(())
 }
 
-fn add_grants(alloc: Global, table: &Table, found: &mut Vec<Grant>) -> Result<(), AllocError>
+/// Adds the grants that a table makes: one for each of its rights.
+pub fn add_grants(alloc: Global, table: &Table, found: &mut Vec<Grant>) -> Result<(), AllocError>
     ensures { IfOk result (λ _. found.new.items
         ≡ found.old.items ++ spec.grants_at (table_view table.now)) }
 {

@@ -2,7 +2,7 @@
 -- two is told.
 use Rattle.std.proofs.Common.{◌≡◌, ℕ, true, false, pos, List, Some, inl, inr}
 use Rattle.std.proofs.Common.{None, arith, refl, codes, [], ◌∷◌}
-use Rattle.toml.specs.Data.{Data, string, integer, array, table, no_items, item}
+use Rattle.toml.specs.Data.{Data, string, integer, array, table, Items, no_items, item}
 use Rattle.toml.specs.Data.{Members, no_members, member}
 use Rattle.hours_core.specs.declared.fault.HoursFault.TheVariants as in_hours
 use Rattle.lifecycle_core.specs.Fault.{fault_of as lifecycle_fault}
@@ -13,10 +13,12 @@ use Rattle.rights_core.specs.Right.{modify_ticket, reply_to_ticket, comment_on_t
 use Rattle.rights_core.specs.Right.{take_ticket, steal_ticket, reassign_ticket, delete_ticket}
 use Rattle.rights_core.specs.Right.{watch, watch_as_admin_cc, admin_queue, super_user}
 use Rattle.rights_core.specs.Right.{standard_rights}
+use Rattle.rights_core.specs.RightsFaults.{fault_of as rights_fault}
 use Rattle.rights_core.specs.declared.fault.RightsFault.TheVariants as in_rights
 use Rattle.settings_core.specs.declared.fault.SettingsFault.TheVariants.{Hours, Lifecycle, Rights}
 use Rattle.settings_core.specs.declared.fault.SettingsFault.TheVariants.{UnknownName, BadToken}
 use Rattle.settings_core.specs.declared.fault.SettingsFault.TheVariants.{BadLimit}
+use Rattle.settings_places.specs.Grants.{table_of_grant}
 use Rattle.settings_places.specs.Lines.{column_at, line_at}
 use Rattle.settings_places.specs.Placed.{HasFault}
 use Rattle.settings_places.specs.Place as place
@@ -274,6 +276,69 @@ nothing_granted =
 
 queue_of_no_right : place_of_fault nothing_granted (Rights in_rights.BadName) ≡ None
 queue_of_no_right = refl
+
+-- a right of no name behind one of a name, which is for a queue of no name
+abbrev granting : List ℕ → List ℕ → Members
+granting right queue =
+    member (codes "grant")
+    (array
+    (item (grant (codes "everyone") (codes "SeeQueue"))
+    (item
+    (table
+    (member (codes "queue") (text queue)
+    (member (codes "rights")
+    (array (item (text (codes "SeeQueue")) (item (text right) no_items)))
+    (member (codes "to") (text (codes "everyone")) no_members))))
+    no_items)))
+    no_members
+
+grants_in_their_order : place_of_fault (granting (codes "Own It") (codes "Help"))
+    (Rights in_rights.BadName) ≡ Some (place.granted 2 (codes "Help"))
+grants_in_their_order = refl
+
+right_told : place_of_fault (granting (codes "Own It") (codes "help"))
+    (Rights in_rights.BadName) ≡ Some (place.granted 2 (codes "Own It"))
+right_told = refl
+
+unknown_right_told : place_of_fault (granting (codes "Approve") (codes "help")) UnknownName
+    ≡ Some (place.right 2 (codes "Approve"))
+unfolding default_lifecycle rights_fault standard_rights see_queue create_ticket show_ticket
+    show_ticket_comments modify_ticket reply_to_ticket comment_on_ticket own_ticket take_ticket
+    steal_ticket reassign_ticket delete_ticket watch watch_as_admin_cc admin_queue super_user
+unknown_right_told = refl
+
+-- no names are told where the people have a fault: `bob` is no person
+no_names_of_faulty_people : place_of_fault people UnknownName ≡ None
+unfolding rights_fault
+no_names_of_faulty_people = refl
+
+-- ---- the tables of grants
+
+-- the tables make two grants, none and one
+abbrev rights_of : Items → Members
+rights_of rights =
+    member (codes "rights") (array rights) (member (codes "to") (text (codes "everyone")) no_members)
+
+abbrev one : Items
+one = item (text (codes "SeeQueue")) no_items
+
+abbrev three_tables : Members
+three_tables =
+    member (codes "grant")
+    (array
+    (item (table (rights_of (item (text (codes "OwnTicket")) one)))
+    (item (table (rights_of no_items)) (item (table (rights_of one)) no_items))))
+    no_members
+
+second_grant : table_of_grant three_tables 1
+    ≡ Some (1, rights_of (item (text (codes "OwnTicket")) one))
+second_grant = refl
+
+third_grant : table_of_grant three_tables 2 ≡ Some (3, rights_of one)
+third_grant = refl
+
+no_fourth_grant : table_of_grant three_tables 3 ≡ None
+no_fourth_grant = refl
 
 -- ---- calendars and lifecycles
 

@@ -1,13 +1,14 @@
 -- What a search finds passes its test, and it finds one where one passes.
 use Rattle.std.proofs.Common.{◌≡◌, ◌⊎◌, inl, inr, ℕ, ◌+◌, ◌≤◌, Bool, true, false, cond, not, ◌&&◌, ◌||◌}
-use Rattle.std.proofs.Common.{List, [], ◌∷◌, Option, Some, None, is_some, find, filter, length, refl, sym, arith}
+use Rattle.std.proofs.Common.{List, [], ◌∷◌, Option, Some, None, is_some, find, filter, length, refl, sym, ap, ◌∙◌, arith}
 use Rattle.std.proofs.Common.{subst, if◌then◌else◌}
-use Rattle.std.specs.List.{list_all}
+use Rattle.std.specs.List.{list_all, list_any, position}
 use Rattle.std.specs.Option.{option_map, option_or}
 use Rattle.std.specs.Str.{bytes_eq}
 use Rattle.std.proofs.lemmas.Slice.Eq.{bytes_eq-Decides}
 use Rattle.rights_core.specs.People.{is_among}
-use Rattle.settings_places.specs.People.{first_again}
+use Rattle.rights_core.proofs.Failing.{one_at, one_fails}
+use Rattle.settings_places.specs.Place.{first_again}
 
 pub some_of : {A : Type 0} (o : Option A) → is_some o ≡ true → (x : A) × (o ≡ Some x)
 some_of (Some x) h = (x, refl)
@@ -17,10 +18,6 @@ pub either_some : {A : Type 0} (a b : Option A) (x : A) → option_or a b ≡ So
     → (a ≡ Some x) ⊎ ((a ≡ None) × (b ≡ Some x))
 either_some None b x h = inr (refl, h)
 either_some (Some y) b x h = inl h
-
-pub none_either : {A : Type 0} (a b : Option A) → option_or a b ≡ None → (a ≡ None) × (b ≡ None)
-none_either None b h = (refl, h)
-none_either (Some x) b h = absurd (cc)
 
 pub mapped_some : {A B : Type 0} (f : A → B) (a : Option A) (y : B) → option_map f a ≡ Some y
     → (x : A) × (a ≡ Some x) × (f x ≡ y)
@@ -37,12 +34,6 @@ pub found_unless : {A : Type 0} (P : A → Type 0) (b : Bool) (y : A) (rest : Op
     → (if b then rest else Some y) ≡ Some x → (b ≡ false → P y) → (rest ≡ Some x → P x) → P x
 found_unless P false y rest x h here there = let same : y ≡ x = cc in subst P same (here refl)
 found_unless P true y rest x h here there = there h
-
--- one is found where not all pass
-pub finds_unless : {A : Type 0} (b all : Bool) (y : A) (rest : Option A) → (b && all) ≡ false
-    → (all ≡ false → is_some rest ≡ true) → is_some (if b then rest else Some y) ≡ true
-finds_unless true all y rest h there = there h
-finds_unless false all y rest h there = refl
 
 pub or_left : (a b : Bool) → a ≡ true → (a || b) ≡ true
 or_left true b h = refl
@@ -68,20 +59,8 @@ pub not_true : (b : Bool) → not b ≡ true → b ≡ false
 not_true false h = refl
 not_true true h = absurd (cc)
 
-pub not_false : (b : Bool) → b ≡ false → not b ≡ true
-not_false false h = refl
-not_false true h = absurd (cc)
-
 pub itself : (a : List ℕ) → bytes_eq a a ≡ true
 itself a = (bytes_eq-Decides a a).1 refl
-
-pub swapped : (a b : List ℕ) → bytes_eq a b ≡ true → bytes_eq b a ≡ true
-swapped a b h = (bytes_eq-Decides b a).1 (sym ((bytes_eq-Decides a b).0 h))
-
-pub alike : (a b : Bool) → (a ≡ true → b ≡ true) → (b ≡ true → a ≡ true) → a ≡ b
-alike true b h k = sym (h refl)
-alike false true h k = k refl
-alike false false h k = refl
 
 -- ---- lists
 
@@ -99,19 +78,49 @@ find_among p (y ∷ ys) x h =
     (λ e. or_left (bytes_eq y y) (is_among ys y) (itself y))
     (λ rest. or_right (bytes_eq y x) (is_among ys x) (find_among p ys x rest))
 
-fails : {A : Type 0} (p q all : Bool) (x : A) (rest : Option A) → p ≡ q → (p && all) ≡ false
-    → (all ≡ false → is_some rest ≡ true) → is_some (cond (not q) (Some x) rest) ≡ true
-fails p false all x rest same h there = refl
-fails true true all x rest same h there = there h
-fails false true all x rest same h there = absurd (cc)
+-- what is found passes another test, and so one of the list does
+pub find_any : {A : Type 0} (p q : A → Bool) (xs : List A) (x : A) → find p xs ≡ Some x
+    → q x ≡ true → list_any q xs ≡ true
+find_any p q [] x h is = absurd (cc)
+find_any p q (y ∷ ys) x h is =
+    found_or (λ z. q z ≡ true → list_any q (y ∷ ys) ≡ true) (p y) y (find p ys) x h
+    (λ here passes. or_left (q y) (list_any q ys) passes)
+    (λ rest passes. or_right (q y) (list_any q ys) (find_any p q ys x rest passes)) is
 
--- one that fails the test is found where not all pass it
-pub find_failing : {A : Type 0} (p q : A → Bool) (xs : List A) → ((x : A) → p x ≡ q x)
-    → list_all p xs ≡ false → is_some (find (λ x. not (q x)) xs) ≡ true
-find_failing p q [] same h = absurd (cc)
-find_failing p q (x ∷ xs) same h =
-    fails (p x) (q x) (list_all p xs) x (find (λ y. not (q y)) xs) (same x) h
-    (find_failing p q xs same)
+pub none_of : {A : Type 0} (o : Option A) → is_some o ≡ false → o ≡ None
+none_of None h = refl
+none_of (Some x) h = absurd (cc)
+
+-- one that fails is found where not all pass, and none where all do
+pub failing_by : {A : Type 0} (pass fail : A → Bool) → ((x : A) → fail x ≡ not (pass x))
+    → (xs : List A) → list_all pass xs ≡ false
+    → (x : A) × (find fail xs ≡ Some x) × (fail x ≡ true)
+failing_by pass fail same xs h =
+    let (x, is) = some_of (find fail xs) (one_fails pass fail same xs ∙ ap not h) in
+    (x, is, find_passes fail xs x is)
+
+pub failing : {A : Type 0} (pass : A → Bool) (xs : List A) → list_all pass xs ≡ false
+    → (x : A) × (find (λ x. not (pass x)) xs ≡ Some x) × (pass x ≡ false)
+failing pass xs h =
+    let (x, is, fails) = failing_by pass (λ x. not (pass x)) (λ x. refl) xs h in
+    (x, is, not_true (pass x) fails)
+
+pub no_failing_by : {A : Type 0} (pass fail : A → Bool) → ((x : A) → fail x ≡ not (pass x))
+    → (xs : List A) → list_all pass xs ≡ true → find fail xs ≡ None
+no_failing_by pass fail same xs h =
+    none_of (find fail xs) (one_fails pass fail same xs ∙ ap not h)
+
+pub no_failing : {A : Type 0} (pass : A → Bool) (xs : List A) → list_all pass xs ≡ true
+    → find (λ x. not (pass x)) xs ≡ None
+no_failing pass xs h = no_failing_by pass (λ x. not (pass x)) (λ x. refl) xs h
+
+pub failing_at : {A : Type 0} (pass : A → Bool) (xs : List A) → list_all pass xs ≡ false
+    → (i : ℕ) × (position (λ x. not (pass x)) xs ≡ Some i)
+failing_at pass xs h = some_of (position (λ x. not (pass x)) xs) (one_at pass xs ∙ ap not h)
+
+pub no_failing_at : {A : Type 0} (pass : A → Bool) (xs : List A) → list_all pass xs ≡ true
+    → position (λ x. not (pass x)) xs ≡ None
+no_failing_at pass xs h = none_of (position (λ x. not (pass x)) xs) (one_at pass xs ∙ ap not h)
 
 -- one of two is there
 pub some_either : {A : Type 0} (p all : Bool) (a b : Option A) → (p && all) ≡ false

@@ -1,6 +1,6 @@
 mod Examples
 pub mod Found
-pub mod Grants
+pub mod Made
 pub mod Placed
 pub mod Read
 pub mod TextTables

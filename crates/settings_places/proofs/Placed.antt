@@ -1,44 +1,51 @@
 -- Each fault that a text has, has a place, and what stands there has it.
-use Rattle.std.proofs.Common.{◌≡◌, ◌⊎◌, inl, inr, ℕ, Bool, true, false, cond, not, ◌&&◌}
-use Rattle.std.proofs.Common.{List, [], Option, Some, None, is_some, refl, sym, ◌∙◌, ap, arith}
-use Rattle.std.proofs.Common.{subst, codes, if◌then◌else◌, ⊎_elim, Result, Ok, Err, IfOk, IsSomeAnd}
-use Rattle.std.specs.List.{list_all}
-use Rattle.std.specs.Option.{option_map, option_or}
+use Rattle.std.proofs.Common.{◌≡◌, ◌⊎◌, inl, inr, ℕ, zero, suc, Bool, true, false, cond, not, ◌&&◌, ◌||◌}
+use Rattle.std.proofs.Common.{List, [], ◌∷◌, find, Option, Some, None, is_some, refl, sym, ◌∙◌, ap, arith}
+use Rattle.std.proofs.Common.{subst, codes, slice_get, option_and_then, unwrap_or, if◌then◌else◌, ⊎_elim}
+use Rattle.std.proofs.Common.{Result, Ok, Err, IfOk, IsSomeAnd}
+use Rattle.std.specs.List.{list_all, position}
+use Rattle.std.specs.Option.{option_map, option_map_or, option_or}
+use Rattle.std.specs.Str.{bytes_eq}
 use Rattle.std.proofs.lemmas.Bool.{or_parts}
-use Rattle.toml.specs.Data.{Members}
+use Rattle.toml.specs.Data.{Members, no_members, member}
+use Rattle.hours_core.specs.declared.level.Level.{Level}
 use Rattle.lifecycle_core.specs.Fault as lifecycle
 use Rattle.lifecycle_core.specs.declared.parts.Parts as lifecycles
-use Rattle.text_core.specs.Form.{is_name}
-use Rattle.rights_core.specs.People.{is_among}
-use Rattle.rights_core.specs.RightsFaults.{has_grant_names, has_group}
+use Rattle.text_core.specs.Form.{is_name, is_right_name}
+use Rattle.rights_core.specs.People.{is_among, knows}
+use Rattle.rights_core.specs.RightsFaults.{fault_of as rights_fault_of, has_grant_names, has_group}
+use Rattle.rights_core.specs.RightsFaults.{has_known_members, has_names, is_there, knows_members}
+use Rattle.rights_core.specs.RightsFaults.{knows_subjects, misname, repeats_name, stranger}
 use Rattle.rights_core.specs.Right.{see_queue, create_ticket, show_ticket, show_ticket_comments}
 use Rattle.rights_core.specs.Right.{modify_ticket, reply_to_ticket, comment_on_ticket, own_ticket}
 use Rattle.rights_core.specs.Right.{take_ticket, steal_ticket, reassign_ticket, delete_ticket}
 use Rattle.rights_core.specs.Right.{watch, watch_as_admin_cc, admin_queue, super_user}
 use Rattle.rights_core.specs.Right.{standard_rights}
-use Rattle.rights_core.specs.RightsFaults.{fault_of as rights_fault_of, has_names}
-use Rattle.rights_core.specs.RightsFaults.{knows_members, knows_subjects, repeats_name}
 use Rattle.rights_core.specs.declared.fault.RightsFault.{RightsFault}
 use Rattle.rights_core.specs.declared.fault.RightsFault.TheVariants as rights
+use Rattle.rights_core.specs.declared.grant.Grant.{Grant}
 use Rattle.rights_core.specs.declared.parts.Parts.{Parts}
+use Rattle.rights_core.proofs.Failing.{one_fails}
 use Rattle.settings_form.specs.Places.{fault_key}
 use Rattle.settings_form.specs.Walk.{form_fault, has_fault}
 use Rattle.settings_form.specs.declared.fault.FormFault.{FormFault}
 use Rattle.settings_form.specs.declared.fault.FormFault.TheVariants as form
 use Rattle.settings_form.proofs.Places.{fault_found}
 use Rattle.settings_parts.specs.CalendarParts.{hours_of}
+use Rattle.settings_parts.specs.LevelParts.{level_of}
 use Rattle.settings_parts.specs.LifecycleParts.{lifecycle_of}
-use Rattle.settings_parts.specs.PeopleParts.{has_people, people_in, people_stated}
-use Rattle.settings_parts.specs.PeopleParts.{root_alone, tokens_of}
-use Rattle.settings_parts.specs.Values.{items_at, table_at, text_at, texts_at}
+use Rattle.settings_parts.specs.PeopleParts.{grant_to_root, grants_at, has_people, people_in}
+use Rattle.settings_parts.specs.PeopleParts.{people_stated, root_alone, tokens_of}
+use Rattle.settings_parts.specs.Values.{members_of, table_at, text_at, texts_at}
 use Rattle.settings_core.specs.Calendars as calendars
 use Rattle.settings_core.specs.Fault.{of_form}
-use Rattle.settings_core.specs.Levels.{have_limits, levels_of}
+use Rattle.settings_core.specs.Levels.{have_limits, levels_in, levels_of}
 use Rattle.settings_core.specs.Lifecycles as tables
-use Rattle.settings_core.specs.Names.{knows_calendars, knows_ignored, knows_names, knows_persons}
-use Rattle.settings_core.specs.Names.{knows_right, knows_rights, knows_status}
-use Rattle.settings_core.specs.Reading.{fault_of, has_limits, has_tokens, is_count_at, late_fault}
-use Rattle.settings_core.specs.Reading.{table_fault}
+use Rattle.settings_core.specs.Names.{knows_calendar, knows_calendars, knows_ignored, knows_names}
+use Rattle.settings_core.specs.Names.{knows_persons, knows_right, knows_rights, knows_status}
+use Rattle.settings_core.specs.Reading.{build_fault, fault_of, has_limits, has_tokens, is_count_at}
+use Rattle.settings_core.specs.Reading.{late_fault, table_fault}
+use Rattle.settings_core.specs.Tokens.{is_token}
 use Rattle.settings_core.specs.declared.fault.SettingsFault.{SettingsFault}
 use Rattle.settings_core.specs.declared.fault.SettingsFault.TheVariants.{UnknownKey, Missing}
 use Rattle.settings_core.specs.declared.fault.SettingsFault.TheVariants.{WrongKind, Hours}
@@ -46,47 +53,36 @@ use Rattle.settings_core.specs.declared.fault.SettingsFault.TheVariants.{Lifecyc
 use Rattle.settings_core.specs.declared.fault.SettingsFault.TheVariants.{UnknownName, BadToken}
 use Rattle.settings_core.specs.declared.fault.SettingsFault.TheVariants.{BadLimit}
 use Rattle.settings_core.specs.declared.named.Named.{Named}
-use Rattle.settings_places.specs.BadNames.{bad_granted, bad_group, bad_person}
-use Rattle.settings_places.specs.Limits.{bad_count, bad_limit}
-use Rattle.settings_places.specs.Names.{unknown_calendar, unknown_person, unknown_right, unknown_status}
-use Rattle.settings_places.specs.People.{is_group, person_again, person_as_group, unknown_member}
-use Rattle.settings_places.specs.People.{unknown_subject}
+use Rattle.settings_core.proofs.Bounds.{count_fails, limit_fails}
+use Rattle.settings_places.specs.Grants.{grant_at, table_of_grant}
+use Rattle.settings_core.specs.Limits.{bad_count, bad_limit}
 use Rattle.settings_places.specs.Placed.{HasFault, HasGrant, HasTable, IsBadCount}
-use Rattle.settings_places.specs.Placed.{IsMisnamed, IsUnknownMember, IsTwice, PlaceLaw, grants_to_none}
-use Rattle.settings_places.specs.Tokens.{bad_token}
+use Rattle.settings_places.specs.Placed.{IsMisnamed, PlaceLaw, grants_to_none}
 use Rattle.settings_places.specs.Place as place
-use Rattle.settings_places.specs.Place.{FaultPlace, bad_name, repeated_name, place_of_fault, limit_place}
-use Rattle.settings_places.specs.Place.{name_place, named_place}
+use Rattle.settings_places.specs.Place.{FaultPlace, calendar_place, first_again, granted_place}
+use Rattle.settings_places.specs.Place.{limit_place, member_place, misnamed_place, name_place}
+use Rattle.settings_places.specs.Place.{named_place, person_place, place_of_fault, repeated_place}
+use Rattle.settings_places.specs.Place.{right_place, status_place, subject_place, token_place}
 use Rattle.settings_places.specs.declared.place.FaultPlace.{FaultPlace as PlaceInCode}
-use Rattle.settings_places.proofs.Found.{again_twice, either_some, found_or, found_unless}
-use Rattle.settings_places.proofs.Found.{mapped_some, none_either, not_true}
-use Rattle.settings_places.proofs.Found.{some_either, some_mapped, some_of}
-use Rattle.settings_places.proofs.Found.{find_among, find_failing, find_passes}
-use Rattle.settings_places.proofs.Grants.{granted_found, granted_has, right_found, right_has}
-use Rattle.settings_places.proofs.Grants.{subject_found, subject_has}
-use Rattle.settings_places.proofs.TextTables.{calendar_found, calendar_has, fault_of_part, first_bad}
-use Rattle.settings_places.proofs.TextTables.{group_at_key, group_found, group_has}
-use Rattle.settings_places.proofs.TextTables.{limit_found, limit_has, member_found, member_has}
-use Rattle.settings_places.proofs.TextTables.{person_found, person_has, status_found, status_has}
-use Rattle.settings_places.proofs.TextTables.{token_found, token_has}
+use Rattle.settings_places.proofs.Found.{again_twice, and_both, either_some, failing, failing_at}
+use Rattle.settings_places.proofs.Found.{failing_by, find_among, find_any, find_passes, found_or}
+use Rattle.settings_places.proofs.Found.{found_unless, itself, mapped_some, no_failing, no_failing_at}
+use Rattle.settings_places.proofs.Found.{no_failing_by, not_true, some_either}
+use Rattle.settings_places.proofs.Found.{some_mapped, some_of}
+use Rattle.settings_places.proofs.Made.{any_at, at_position, made_by, of_table, said_by}
+use Rattle.settings_places.proofs.TextTables.{fault_of_part, first_bad, limit_has}
 
--- the first fault that applies is this one, or one of the rest
+-- the first fault that applies is this one, or one of the rest, where this doesn't
 when_or : {F : Type 0} (P : F → Type 0) (b : Bool) (y : F) (rest : Option F) (x : F)
     → option_or (cond b (Some y) None) rest ≡ Some x → (b ≡ true → P y)
-    → (rest ≡ Some x → P x) → P x
+    → (b ≡ false → rest ≡ Some x → P x) → P x
 when_or P true y rest x h here there = let same : y ≡ x = cc in subst P same (here refl)
-when_or P false y rest x h here there = there h
+when_or P false y rest x h here there = there refl h
 
 when_only : {F : Type 0} (P : F → Type 0) (b : Bool) (y x : F) → cond b (Some y) None ≡ Some x
     → (b ≡ true → P y) → P x
 when_only P true y x h here = let same : y ≡ x = cc in subst P same (here refl)
 when_only P false y x h here = absurd (cc)
-
-some_last : {A : Type 0} (a b : Option A) (x : A)
-    → is_some (option_or a (option_or b (Some x))) ≡ true
-some_last (Some y) b x = refl
-some_last None (Some y) x = refl
-some_last None None x = refl
 
 -- the tests in their order, one and then the rest
 grouped : (a b c : Bool) → (a && b && c) ≡ false → (a && (b && c)) ≡ false
@@ -97,9 +93,24 @@ grouped_four : (a b c d : Bool) → (a && b && c && d) ≡ false → (a && (b &&
 grouped_four true b c d h = grouped b c d h
 grouped_four false b c d h = refl
 
+-- there is such a place
+abbrev Stands : (FaultPlace → Type 0) → Option FaultPlace → Type 0
+Stands IsSo place = (found : FaultPlace) × (place ≡ Some found) × IsSo found
+
+-- one of two tests fails, and the first that does has its place
+first_stands : (IsSo : FaultPlace → Type 0) (a b : Bool) (x y : Option FaultPlace)
+    → (a && b) ≡ false → (a ≡ false → Stands IsSo x) → (a ≡ true → x ≡ None)
+    → (b ≡ false → Stands IsSo y) → Stands IsSo (option_or x y)
+first_stands IsSo false b x y h here none there =
+    let (found, is, so) = here refl in
+    (found, ap (λ (o : Option FaultPlace). option_or o y) is, so)
+first_stands IsSo true b x y h here none there =
+    let (found, is, so) = there h in
+    (found, ap (λ (o : Option FaultPlace). option_or o y) (none refl) ∙ is, so)
+
 -- what has the fault first is there, and has it
 abbrev HasPlace : Members → SettingsFault → Type 0
-HasPlace ms fault = (found : FaultPlace) × (place_of_fault ms fault ≡ Some found) × HasFault ms fault found
+HasPlace ms fault = Stands (HasFault ms fault) (place_of_fault ms fault)
 
 -- ---- faults of form
 
@@ -146,226 +157,250 @@ lifecycle_placed ms f h =
     subst (λ g. HasTable (λ t. tables.table_fault t ≡ Some g) k all) (sym is) has in
     subst (HasPlace ms) is (place.lifecycle k, ap (option_map place.lifecycle) found, own)
 
+-- ---- grants
+
+-- the one grant of a text that doesn't speak of people passes
+grants_stated : (b : Bool) (p : Parts) (fails : Parts → Grant → Bool) (i : ℕ)
+    → fails root_alone grant_to_root ≡ false
+    → position (fails (if b then p else root_alone)) (if b then p else root_alone).grants ≡ Some i
+    → (if b then p else root_alone).grants ≡ p.grants
+grants_stated true p fails i passes h = refl
+grants_stated false p fails i passes h =
+    absurd (let (g, is, fail) = at_position (fails root_alone) root_alone.grants i h in
+    only_root i g is fail)
+  where
+    only_root : (i : ℕ) (g : Grant) → slice_get (grant_to_root ∷ []) i ≡ Some g
+        → fails root_alone g ≡ true → ⊥
+    only_root zero g is fail =
+        let same : grant_to_root ≡ g = cc in
+        let no : false ≡ true = sym passes ∙ ap (fails root_alone) same ∙ fail in cc
+    only_root (suc i) g is fail = cc
+
+-- the first grant that fails a test, its table, and what is so of the table since it makes it
+record IsGrantAt (ms : Members) (fails : Grant → Bool) (i : ℕ) (g : Grant) (t : ℕ × Members)
+    : Type 1 where
+  at : grant_at ms (people_in ms).grants i ≡ Some (t.0, t.1, g)
+  fail : fails g ≡ true
+  so : (IsSo : Members → Type 0) → ((j : ℕ) → slice_get (grants_at t.1) j ≡ Some g → IsSo t.1)
+      → HasGrant IsSo t.0 ms
+
+grant_found : (ms : Members) (fails : Parts → Grant → Bool) (i : ℕ)
+    → fails root_alone grant_to_root ≡ false
+    → position (fails (people_in ms)) (people_in ms).grants ≡ Some i
+    → (g : Grant) × (t : ℕ × Members) × IsGrantAt ms (fails (people_in ms)) i g t
+grant_found ms fails i root h =
+    let parts = people_in ms in
+    let (g, is, fail) = at_position (fails parts) parts.grants i h in
+    let stated = grants_stated (has_people ms) (people_stated ms) fails i root h in
+    let own : slice_get (people_stated ms).grants i ≡ Some g =
+    subst (λ (gs : List Grant). slice_get gs i ≡ Some g) stated is in
+    let (t, makes, so) = made_by ms i g own in (
+      g,
+      t,
+      record {
+        at = ap
+            (option_and_then (λ g. option_map (λ t. (t.0, t.1, g)) (table_of_grant ms i))) is
+            ∙ ap (option_map (λ t. (t.0, t.1, g))) makes;
+        fail = fail;
+        so = so;
+      },
+    )
+
 -- ---- people
 
 Applies : Parts → RightsFault → Type 0
 Applies p rights.BadName = has_names p ≡ false
 Applies p rights.Repeated = repeats_name p.persons p.groups ≡ true
-Applies p rights.UnknownMember = knows_members p ≡ false
-Applies p rights.UnknownSubject = knows_subjects p ≡ false
+Applies p rights.UnknownMember =
+    (repeats_name p.persons p.groups ≡ false) × (knows_members p ≡ false)
+Applies p rights.UnknownSubject =
+    (repeats_name p.persons p.groups ≡ false) × (knows_subjects p ≡ false)
 Applies p rights.NoMemory = ⊥
 
 rights_apply : (p : Parts) (f : RightsFault) → rights_fault_of p ≡ Some f → Applies p f
 unfolding rights_fault_of Applies
 rights_apply p f h =
     when_or (Applies p) (not (has_names p)) rights.BadName _ f h (not_true (has_names p))
-    (λ rest. when_or (Applies p) (repeats_name p.persons p.groups) rights.Repeated _ f rest
+    (λ named rest. when_or (Applies p) (repeats_name p.persons p.groups) rights.Repeated _ f rest
     (λ is. is)
-    (λ rest. when_or (Applies p) (not (knows_members p)) rights.UnknownMember _ f rest
-    (not_true (knows_members p))
-    (λ rest. when_only (Applies p) (not (knows_subjects p)) rights.UnknownSubject f rest
-    (not_true (knows_subjects p)))))
+    (λ once rest. when_or (Applies p) (not (knows_members p)) rights.UnknownMember _ f rest
+    (λ is. (once, not_true (knows_members p) is))
+    (λ known rest. when_only (Applies p) (not (knows_subjects p)) rights.UnknownSubject f rest
+    (λ is. (once, not_true (knows_subjects p) is)))))
 
--- `root` alone has names, and knows its members and subjects
-stated_by_names : (b : Bool) (p : Parts) → has_names (if b then p else root_alone) ≡ false
-    → (if b then p else root_alone) ≡ p
+misnamed_by : (right : List ℕ) (queue : Option (List ℕ)) (fits : Bool) → is_right_name right ≡ fits
+    → (fits && option_map_or is_name queue true) ≡ false
+    → (name : List ℕ)
+    × ((if fits then option_and_then (λ q. if is_name q then None else Some q) queue
+    else Some right) ≡ Some name)
+    × (((right ≡ name) × (is_right_name name ≡ false))
+    ⊎ ((queue ≡ Some name) × (is_name name ≡ false)))
+misnamed_by right queue false is h = (right, refl, inl (refl, is))
+misnamed_by right None true is h = absurd (cc)
+misnamed_by right (Some q) true is h =
+    (q, ap (λ (b : Bool). if b then None else Some q) h, inr (refl, h))
+
+granted_placed : (ms : Members) → list_all has_grant_names (people_in ms).grants ≡ false
+    → Stands (HasFault ms (Rights rights.BadName)) (granted_place ms (people_in ms))
 unfolding super_user
-stated_by_names true p h = refl
-stated_by_names false p h = absurd (let no : true ≡ false = h in cc)
+granted_placed ms h =
+    let grants = (people_in ms).grants in
+    let (i, is) = failing_at has_grant_names grants h in
+    let (g, t, found) = grant_found ms (λ p g. not (has_grant_names g)) i refl is in
+    let (name, told, why) =
+    misnamed_by g.right g.queue (is_right_name g.right) refl
+    (not_true (has_grant_names g) found.fail) in (
+      place.granted t.0 name,
+      ap
+          (option_and_then (λ i. option_and_then
+          (λ at. option_map (place.granted at.0) (misname at.2)) (grant_at ms grants i))) is
+          ∙ ap (option_and_then (λ at. option_map (place.granted at.0) (misname at.2))) found.at
+          ∙ ap (option_map (place.granted t.0)) told,
+      found.so (IsMisnamed name)
+          (λ j made.
+          let own = of_table t.1 j g made in
+          ⊎_elim
+          (λ bad. inl
+          (subst (λ n. is_among (texts_at (codes "rights") t.1) n ≡ true) bad.0 own.right, bad.1))
+          (λ bad. inr (sym own.queue ∙ bad.0, bad.1, own.some))
+          why),
+    )
 
-stated_by_members : (b : Bool) (p : Parts)
-    → knows_members (if b then p else root_alone) ≡ false → (if b then p else root_alone) ≡ p
-stated_by_members true p h = refl
-stated_by_members false p h = absurd (let no : true ≡ false = h in cc)
-
-stated_by_subjects : (b : Bool) (p : Parts)
-    → knows_subjects (if b then p else root_alone) ≡ false → (if b then p else root_alone) ≡ p
-stated_by_subjects true p h = refl
-stated_by_subjects false p h = absurd (let no : true ≡ false = h in cc)
-
-stated_by_repeats : (b : Bool) (p : Parts)
-    → repeats_name (if b then p else root_alone).persons (if b then p else root_alone).groups ≡ true
-    → (if b then p else root_alone) ≡ p
-stated_by_repeats true p h = refl
-stated_by_repeats false p h = absurd (let no : false ≡ true = h in cc)
-
-bad_name_found : (ms : Members) → has_names (people_stated ms) ≡ false
-    → is_some (bad_name ms) ≡ true
-bad_name_found ms h =
-    let parts = people_stated ms in
-    let groups = table_at (codes "groups") ms in
-    let persons_fit = list_all is_name parts.persons in
-    let groups_fit = list_all (λ g. is_name g.name) parts.groups in
-    let grants_fit = list_all has_grant_names parts.grants in
-    let by_group : Option FaultPlace = option_map place.group_named (bad_group ms) in
-    let by_grant : Option FaultPlace = option_map (λ f. place.granted f.0 f.1) (bad_granted ms) in
-    some_either persons_fit (groups_fit && grants_fit)
-    (option_map place.person_named (bad_person ms)) (option_or by_group by_grant)
-    (grouped persons_fit groups_fit grants_fit h)
-    (λ bad. some_mapped place.person_named (bad_person ms)
-    (find_failing is_name is_name parts.persons (λ x. refl) bad))
-    (λ rest. some_either groups_fit grants_fit by_group by_grant rest
-    (λ bad. some_mapped place.group_named (bad_group ms) (group_found groups bad))
-    (λ bad. some_mapped (λ f. place.granted f.0 f.1) (bad_granted ms)
-    (granted_found 1 (items_at (codes "grant") ms) bad)))
-
--- a place has the fault by the people that a text states
-IsMisnaming : Members → Parts → FaultPlace → Type 0
-IsMisnaming ms p (place.person_named name) =
-    (is_among p.persons name ≡ true) × (is_name name ≡ false)
-IsMisnaming ms p (place.group_named name) =
-    (has_group p.groups name ≡ true) × (is_name name ≡ false)
-IsMisnaming ms p (place.granted n name) = HasGrant (IsMisnamed name) n ms
-IsMisnaming ms p other = ⊥
-
-bad_name_has : (ms : Members) (w : FaultPlace) → bad_name ms ≡ Some w
-    → IsMisnaming ms (people_stated ms) w
-unfolding IsMisnaming
-bad_name_has ms w h =
-    let parts = people_stated ms in
-    let P : FaultPlace → Type 0 = IsMisnaming ms parts in
-    let by_group : Option FaultPlace = option_map place.group_named (bad_group ms) in
-    let by_grant : Option FaultPlace = option_map (λ f. place.granted f.0 f.1) (bad_granted ms) in
-    ⊎_elim
-    (λ own. let (name, found, is) = mapped_some place.person_named (bad_person ms) w own in
-    let has : P (place.person_named name) = (
-      find_among (λ name. not (is_name name)) parts.persons name found,
-      not_true (is_name name) (find_passes (λ name. not (is_name name)) parts.persons name found),
-    ) in
-    subst P is has)
-    (λ after. ⊎_elim
-    (λ own. let (name, found, is) = mapped_some place.group_named (bad_group ms) w own in
-    let has : P (place.group_named name) = group_has (table_at (codes "groups") ms) name found in
-    subst P is has)
-    (λ last. let (x, found, is) =
-    mapped_some (λ f. place.granted f.0 f.1) (bad_granted ms) w last.1 in
-    let has : P (place.granted x.0 x.1) = granted_has (items_at (codes "grant") ms) x found in
-    subst P is has)
-    (either_some by_group by_grant w after.1))
-    (either_some (option_map place.person_named (bad_person ms)) (option_or by_group by_grant) w h)
-
-misnaming_placed : (ms : Members) (w : FaultPlace) → IsMisnaming ms (people_in ms) w
-    → HasFault ms (Rights rights.BadName) w
-unfolding IsMisnaming
-misnaming_placed ms (place.person_named name) h = h
-misnaming_placed ms (place.group_named name) h = h
-misnaming_placed ms (place.granted n name) h = h
-misnaming_placed ms other h = absurd h
-
-name_form_placed : (ms : Members) → has_names (people_in ms) ≡ false
+misnamed_placed : (ms : Members) → has_names (people_in ms) ≡ false
     → HasPlace ms (Rights rights.BadName)
-name_form_placed ms h =
-    let stated : people_in ms ≡ people_stated ms =
-    stated_by_names (has_people ms) (people_stated ms) h in
-    let bad : has_names (people_stated ms) ≡ false =
-    subst (λ p. has_names p ≡ false) stated h in
-    let (w, found) = some_of (bad_name ms) (bad_name_found ms bad) in (
-      w,
-      found,
-      misnaming_placed ms w
-          (subst (λ p. IsMisnaming ms p w) (sym stated) (bad_name_has ms w found)),
-    )
+misnamed_placed ms h =
+    let parts = people_in ms in
+    let IsSo : FaultPlace → Type 0 = HasFault ms (Rights rights.BadName) in
+    let by_grant = granted_place ms parts in
+    let by_group : Option FaultPlace =
+    option_map (λ g. place.group_named g.name) (find (λ g. not (is_name g.name)) parts.groups) in
+    let by_person : Option FaultPlace =
+    option_map place.person_named (find (λ name. not (is_name name)) parts.persons) in
+    let persons = list_all is_name parts.persons in
+    let groups = list_all (λ g. is_name g.name) parts.groups in
+    let grants = list_all has_grant_names parts.grants in
+    first_stands IsSo persons (groups && grants) by_person (option_or by_group by_grant)
+    (grouped persons groups grants h)
+    (λ bad. let (name, is, misnamed) = failing is_name parts.persons bad in (
+      place.person_named name,
+      ap (option_map place.person_named) is,
+      (find_among (λ name. not (is_name name)) parts.persons name is, misnamed),
+    ))
+    (λ fit. ap (option_map place.person_named) (no_failing is_name parts.persons fit))
+    (λ rest. first_stands IsSo groups grants by_group by_grant rest
+    (λ bad. let (g, is, misnamed) = failing (λ g. is_name g.name) parts.groups bad in (
+      place.group_named g.name,
+      ap (option_map (λ g. place.group_named g.name)) is,
+      (
+        find_any (λ g. not (is_name g.name)) (λ h. bytes_eq h.name g.name) parts.groups g is
+            (itself g.name),
+        misnamed,
+      ),
+    ))
+    (λ fit. ap (option_map (λ g. place.group_named g.name))
+    (no_failing (λ g. is_name g.name) parts.groups fit))
+    (granted_placed ms))
 
-member_placed : (ms : Members) → knows_members (people_in ms) ≡ false
+member_placed : (ms : Members) → Applies (people_in ms) rights.UnknownMember
     → HasPlace ms (Rights rights.UnknownMember)
+unfolding Applies
 member_placed ms h =
-    let groups = table_at (codes "groups") ms in
-    let stated : people_in ms ≡ people_stated ms =
-    stated_by_members (has_people ms) (people_stated ms) h in
-    let unknowns : knows_members (people_stated ms) ≡ false =
-    subst (λ p. knows_members p ≡ false) stated h in
-    let persons = texts_at (codes "persons") ms in
-    let (x, found) = some_of (unknown_member persons ms) (member_found persons ms groups unknowns) in
-    let (listed, unknown) = member_has persons ms groups x found in
-    let (no_person, no_group) = or_parts (is_among persons x.1) (is_group ms x.1) unknown in
-    let own : IsUnknownMember (people_stated ms) x.0 x.1 =
-    (listed, no_person, sym (group_at_key x.1 groups) ∙ no_group) in (
-      place.group_member x.0 x.1,
-      ap (option_map (λ f. place.group_member f.0 f.1)) found,
-      subst (λ p. IsUnknownMember p x.0 x.1) (sym stated) own,
+    let persons = (people_in ms).persons in
+    let groups = (people_in ms).groups in
+    let test : List ℕ → Bool = λ name. not (is_among persons name || has_group groups name) in
+    let (g, is, has) =
+    failing_by (has_known_members persons groups) (λ g. is_some (stranger persons groups g.members))
+    (λ g. one_fails (λ name. is_among persons name || has_group groups name) test (λ name. refl)
+    g.members) groups h.1 in
+    let (name, found) = some_of (stranger persons groups g.members) has in
+    let (no_person, no_group) =
+    or_parts (is_among persons name) (has_group groups name)
+    (not_true (is_among persons name || has_group groups name)
+    (find_passes test g.members name found)) in (
+      place.group_member g.name name,
+      ap
+          (λ (b : Bool). if b then None else option_and_then
+          (λ g. option_map (place.group_member g.name) (stranger persons groups g.members))
+          (find (λ g. is_some (stranger persons groups g.members)) groups)) h.0
+          ∙ ap
+          (option_and_then
+          (λ g. option_map (place.group_member g.name) (stranger persons groups g.members))) is
+          ∙ ap (option_map (place.group_member g.name)) found,
+      (
+        find_any (λ g. is_some (stranger persons groups g.members))
+            (λ h. bytes_eq h.name g.name && is_among h.members name) groups g is
+            (and_both (bytes_eq g.name g.name) (is_among g.members name) (itself g.name)
+            (find_among test g.members name found)),
+        no_person,
+        no_group,
+      ),
     )
 
-subject_placed : (ms : Members) → knows_subjects (people_in ms) ≡ false
+subject_placed : (ms : Members) → Applies (people_in ms) rights.UnknownSubject
     → HasPlace ms (Rights rights.UnknownSubject)
+unfolding Applies
 subject_placed ms h =
-    let grants = items_at (codes "grant") ms in
-    let stated : people_in ms ≡ people_stated ms =
-    stated_by_subjects (has_people ms) (people_stated ms) h in
-    let unknowns : knows_subjects (people_stated ms) ≡ false =
-    subst (λ p. knows_subjects p ≡ false) stated h in
-    let (x, found) = some_of (unknown_subject (texts_at (codes "persons") ms) ms) (subject_found ms 1 grants unknowns) in
-    let P : Parts → Type 0 =
-    λ p. HasGrant (λ g. (text_at (codes "to") g ≡ Some x.1) × (grants_to_none p g ≡ true)) x.0 ms in
-    let own : P (people_stated ms) = subject_has ms grants x found in (
-      place.subject x.0 x.1,
-      ap (option_map (λ f. place.subject f.0 f.1)) found,
-      subst P (sym stated) own,
+    let persons = (people_in ms).persons in
+    let groups = (people_in ms).groups in
+    let grants = (people_in ms).grants in
+    let (i, is) = failing_at (λ g. is_there persons groups g.subject) grants h.1 in
+    let (g, t, found) =
+    grant_found ms (λ p g. not (is_there p.persons p.groups g.subject)) i refl is in
+    let IsFor : Members → Type 0 =
+    λ table. (text_at (codes "to") table ≡ Some (unwrap_or (text_at (codes "to") t.1) []))
+    × (grants_to_none (people_in ms) table ≡ true) in (
+      place.subject t.0 (unwrap_or (text_at (codes "to") t.1) []),
+      ap
+          (λ (b : Bool). if b then None else option_and_then
+          (λ i. option_map
+          (λ at. place.subject at.0 (unwrap_or (text_at (codes "to") at.1) []))
+          (grant_at ms grants i))
+          (position (λ g. not (is_there persons groups g.subject)) grants)) h.0
+          ∙ ap
+          (option_and_then
+          (λ i. option_map
+          (λ at. place.subject at.0 (unwrap_or (text_at (codes "to") at.1) []))
+          (grant_at ms grants i))) is
+          ∙ ap
+          (option_map (λ at. place.subject at.0 (unwrap_or (text_at (codes "to") at.1) [])))
+          found.at,
+      found.so IsFor
+          (λ j made. (
+            said_by t.1 j g made,
+            any_at (λ g. not (is_there persons groups g.subject)) (grants_at t.1) j g made found.fail,
+          )),
     )
-
--- a place has the fault by the people that a text states
-IsRepeated : Members → Parts → FaultPlace → Type 0
-IsRepeated ms p (place.person_twice name) = IsTwice name p.persons
-IsRepeated ms p (place.person_and_group name) =
-    (is_among p.persons name ≡ true) × (has_group p.groups name ≡ true)
-IsRepeated ms p place.people = repeats_name p.persons p.groups ≡ true
-IsRepeated ms p other = ⊥
-
-repeated_has : (ms : Members) (w : FaultPlace) → repeated_name ms ≡ Some w
-    → repeats_name (people_stated ms).persons (people_stated ms).groups ≡ true
-    → IsRepeated ms (people_stated ms) w
-unfolding IsRepeated
-repeated_has ms w h repeats =
-    let parts = people_stated ms in
-    let P : FaultPlace → Type 0 = IsRepeated ms parts in
-    let shared : Option FaultPlace = option_map place.person_and_group (person_as_group ms) in
-    ⊎_elim
-    (λ own. let (name, found, is) = mapped_some place.person_twice (person_again ms) w own in
-    let has : P (place.person_twice name) = again_twice name parts.persons found in
-    subst P is has)
-    (λ after. ⊎_elim
-    (λ own. let (name, found, is) =
-    mapped_some place.person_and_group (person_as_group ms) w own in
-    let has : P (place.person_and_group name) = (
-      find_among (is_group ms) parts.persons name found,
-      sym (group_at_key name (table_at (codes "groups") ms))
-          ∙ find_passes (is_group ms) parts.persons name found,
-    ) in
-    subst P is has)
-    (λ last. let same : place.people ≡ w = cc in subst P same repeats)
-    (either_some shared (Some place.people) w after.1))
-    (either_some (option_map place.person_twice (person_again ms)) (option_or shared (Some place.people)) w h)
-
-repeated_here : (ms : Members) (w : FaultPlace) → IsRepeated ms (people_in ms) w
-    → HasFault ms (Rights rights.Repeated) w
-unfolding IsRepeated
-repeated_here ms (place.person_twice name) h = h
-repeated_here ms (place.person_and_group name) h = h
-repeated_here ms place.people h = h
-repeated_here ms other h = absurd h
-
-repeated_found : (ms : Members) → is_some (repeated_name ms) ≡ true
-repeated_found ms = some_last (option_map place.person_twice (person_again ms))
-    (option_map place.person_and_group (person_as_group ms)) place.people
 
 repeated_placed : (ms : Members)
     → repeats_name (people_in ms).persons (people_in ms).groups ≡ true
     → HasPlace ms (Rights rights.Repeated)
-repeated_placed ms h =
-    let stated : people_in ms ≡ people_stated ms =
-    stated_by_repeats (has_people ms) (people_stated ms) h in
-    let repeats : repeats_name (people_stated ms).persons (people_stated ms).groups ≡ true =
-    subst (λ p. repeats_name p.persons p.groups ≡ true) stated h in
-    let (w, found) = some_of (repeated_name ms) (repeated_found ms) in (
-      w,
-      found,
-      repeated_here ms w
-          (subst (λ p. IsRepeated ms p w) (sym stated) (repeated_has ms w found repeats)),
+repeated_placed ms h = by_person (first_again [] (people_in ms).persons) refl
+  where
+    by_group : (o : Option (List ℕ)) → o ≡ find (has_group (people_in ms).groups) (people_in ms).persons
+        → Stands (HasFault ms (Rights rights.Repeated))
+        (option_or (option_map place.person_and_group o) (Some place.people))
+    by_group (Some name) is = (
+      place.person_and_group name,
+      refl,
+      (
+        find_among (has_group (people_in ms).groups) (people_in ms).persons name (sym is),
+        find_passes (has_group (people_in ms).groups) (people_in ms).persons name (sym is),
+      ),
     )
+    by_group None is = (place.people, refl, h)
+
+    by_person : (o : Option (List ℕ)) → o ≡ first_again [] (people_in ms).persons
+        → Stands (HasFault ms (Rights rights.Repeated)) (option_or (option_map place.person_twice o)
+        (option_or (option_map place.person_and_group
+        (find (has_group (people_in ms).groups) (people_in ms).persons)) (Some place.people)))
+    by_person (Some name) is =
+        (place.person_twice name, refl, again_twice name (people_in ms).persons (sym is))
+    by_person None is = by_group (find (has_group (people_in ms).groups) (people_in ms).persons) refl
 
 people_placed : (ms : Members) (f : RightsFault) → Applies (people_in ms) f
     → HasPlace ms (Rights f)
 unfolding Applies
-people_placed ms rights.BadName h = name_form_placed ms h
+people_placed ms rights.BadName h = misnamed_placed ms h
 people_placed ms rights.Repeated h = repeated_placed ms h
 people_placed ms rights.UnknownMember h = member_placed ms h
 people_placed ms rights.UnknownSubject h = subject_placed ms h
@@ -385,120 +420,149 @@ unfolding standard_rights see_queue create_ticket show_ticket show_ticket_commen
     reassign_ticket delete_ticket watch watch_as_admin_cc admin_queue super_user
 root_known ls = refl
 
-unknowns_stated : (b : Bool) (ls : List (Named lifecycles.Parts)) (p : Parts)
-    → knows_rights ls (if b then p else root_alone).grants ≡ false
-    → knows_rights ls p.grants ≡ false
-unknowns_stated true ls p h = h
-unknowns_stated false ls p h =
-    absurd (let no : (knows_right ls super_user && true) ≡ false = h in
-    let yes : knows_right ls super_user ≡ true = root_known ls in
-    let both : (true && true) ≡ false = ap (λ (b : Bool). b && true) (sym yes) ∙ no in cc)
-
-name_found : (ms : Members) → knows_names ms ≡ false → is_some (named_place ms) ≡ true
-name_found ms h =
+right_placed : (ms : Members)
+    → knows_rights (tables.lifecycles_of ms) (people_in ms).grants ≡ false
+    → Stands (HasFault ms UnknownName)
+    (right_place ms (tables.lifecycles_of ms) (people_in ms).grants)
+right_placed ms h =
     let ls = tables.lifecycles_of ms in
-    let levels = table_at (codes "level") ms in
-    let people = people_in ms in
-    let by_calendar : Option FaultPlace =
-    option_map (λ f. place.calendar_of f.0 f.1) (unknown_calendar ms) in
-    let by_status : Option FaultPlace =
-    option_map (λ f. place.status_of f.0 f.1) (unknown_status (knows_status ls) ms) in
-    let by_person : Option FaultPlace =
-    option_map (λ f. place.person_of f.0 f.1) (unknown_person people.persons ms) in
-    let rights = knows_rights ls people.grants in
-    let calendars = knows_calendars ms (levels_of ms) in
-    let statuses = knows_ignored ls (levels_of ms) in
-    let persons = knows_persons people (tokens_of ms) in
-    some_either rights (calendars && (statuses && persons))
-    (option_map (λ f. place.right f.0 f.1) (unknown_right (knows_right ls) ms))
-    (option_or by_calendar (option_or by_status by_person))
-    (grouped_four rights calendars statuses persons h)
-    (λ unknown. some_mapped (λ f. place.right f.0 f.1) (unknown_right (knows_right ls) ms)
-    (right_found ls 1 (items_at (codes "grant") ms)
-    (unknowns_stated (has_people ms) ls (people_stated ms) unknown)))
-    (λ rest. some_either calendars (statuses && persons) by_calendar
-    (option_or by_status by_person) rest
-    (λ unknown. some_mapped (λ f. place.calendar_of f.0 f.1) (unknown_calendar ms)
-    (calendar_found ms levels unknown))
-    (λ rest. some_either statuses persons by_status by_person rest
-    (λ unknown. some_mapped (λ f. place.status_of f.0 f.1) (unknown_status (knows_status ls) ms)
-    (status_found ls levels unknown))
-    (λ unknown. some_mapped (λ f. place.person_of f.0 f.1) (unknown_person people.persons ms)
-    (person_found people.persons (table_at (codes "tokens") ms) unknown))))
+    let grants = (people_in ms).grants in
+    let (i, is) = failing_at (λ g. knows_right ls g.right) grants h in
+    let (g, t, found) =
+    grant_found ms (λ p g. not (knows_right ls g.right)) i (ap not (root_known ls)) is in (
+      place.right t.0 g.right,
+      ap
+          (option_and_then
+          (λ i. option_map (λ at. place.right at.0 at.2.right) (grant_at ms grants i))) is
+          ∙ ap (option_map (λ at. place.right at.0 at.2.right)) found.at,
+      (
+        found.so (λ table. is_among (texts_at (codes "rights") table) g.right ≡ true)
+            (λ j made. (of_table t.1 j g made).right),
+        not_true (knows_right ls g.right) found.fail,
+      ),
+    )
 
-right_placed : (ms : Members) (w : FaultPlace)
-    → option_map (λ f. place.right f.0 f.1) (unknown_right (knows_right (tables.lifecycles_of ms)) ms) ≡ Some w
-    → HasFault ms UnknownName w
-right_placed ms w h =
-    let ls = tables.lifecycles_of ms in
-    let (x, found, is) = mapped_some (λ f. place.right f.0 f.1) (unknown_right (knows_right ls) ms) w h in
-    subst (HasFault ms UnknownName) is (right_has ls (items_at (codes "grant") ms) x found)
+-- a level that is found is that of a table
+level_stands : (p : Named Level → Bool) (tables : Members) (l : Named Level)
+    (IsSo : Members → Type 0) → find p (levels_in tables) ≡ Some l
+    → ((t : Members) → level_of t ≡ l.value → IsSo t) → HasTable IsSo l.name tables
+level_stands p no_members l IsSo h so = absurd (cc)
+level_stands p (member k d ms) l IsSo h so =
+    let own : Named Level = record { name = k; value = level_of (members_of d) } in
+    found_or
+    (λ z. ((t : Members) → level_of t ≡ z.value → IsSo t) → HasTable IsSo z.name (member k d ms))
+    (p own) own (find p (levels_in ms)) l h
+    (λ is so. inl (refl, so (members_of d) refl))
+    (λ rest so. inr (level_stands p ms l IsSo rest so)) so
 
-level_calendar_placed : (ms : Members) (w : FaultPlace)
-    → option_map (λ f. place.calendar_of f.0 f.1) (unknown_calendar ms) ≡ Some w
-    → HasFault ms UnknownName w
-level_calendar_placed ms w h =
-    let (x, found, is) = mapped_some (λ f. place.calendar_of f.0 f.1) (unknown_calendar ms) w h in
-    subst (HasFault ms UnknownName) is (calendar_has ms (table_at (codes "level") ms) x found)
+level_calendar_placed : (ms : Members) → knows_calendars ms (levels_of ms) ≡ false
+    → Stands (HasFault ms UnknownName) (calendar_place ms (levels_of ms))
+level_calendar_placed ms h =
+    let (l, is, unknown) =
+    failing (λ l. knows_calendar ms l.value.calendar) (levels_of ms) h in (
+      place.calendar_of l.name l.value.calendar,
+      ap (option_map (λ l. place.calendar_of l.name l.value.calendar)) is,
+      (
+        level_stands (λ l. not (knows_calendar ms l.value.calendar)) (table_at (codes "level") ms)
+            l (λ t. (level_of t).calendar ≡ l.value.calendar) is
+            (λ t same. ap (λ v. v.calendar) same),
+        unknown,
+      ),
+    )
 
-status_placed : (ms : Members) (w : FaultPlace)
-    → option_map (λ f. place.status_of f.0 f.1) (unknown_status (knows_status (tables.lifecycles_of ms)) ms) ≡ Some w
-    → HasFault ms UnknownName w
-status_placed ms w h =
-    let ls = tables.lifecycles_of ms in
-    let (x, found, is) = mapped_some (λ f. place.status_of f.0 f.1) (unknown_status (knows_status ls) ms) w h in
-    subst (HasFault ms UnknownName) is (status_has ls (table_at (codes "level") ms) x found)
+status_placed : (ms : Members) → knows_ignored (tables.lifecycles_of ms) (levels_of ms) ≡ false
+    → Stands (HasFault ms UnknownName) (status_place (tables.lifecycles_of ms) (levels_of ms))
+status_placed ms h =
+    let known : List ℕ → Bool = knows_status (tables.lifecycles_of ms) in
+    let (l, is, has) =
+    failing_by (λ l. list_all known l.value.ignore)
+    (λ l. is_some (find (λ s. not (known s)) l.value.ignore))
+    (λ l. one_fails known (λ s. not (known s)) (λ s. refl) l.value.ignore) (levels_of ms) h in
+    let (s, found) = some_of (find (λ s. not (known s)) l.value.ignore) has in
+    let listed = find_among (λ s. not (known s)) l.value.ignore s found in (
+      place.status_of l.name s,
+      ap
+          (option_and_then
+          (λ l. option_map (place.status_of l.name) (find (λ s. not (known s)) l.value.ignore))) is
+          ∙ ap (option_map (place.status_of l.name)) found,
+      (
+        level_stands (λ l. is_some (find (λ s. not (known s)) l.value.ignore))
+            (table_at (codes "level") ms) l (λ t. is_among (level_of t).ignore s ≡ true) is
+            (λ t same. ap (λ v. is_among v.ignore s) same ∙ listed),
+        not_true (known s) (find_passes (λ s. not (known s)) l.value.ignore s found),
+      ),
+    )
 
-person_placed : (ms : Members) (w : FaultPlace)
-    → option_map (λ f. place.person_of f.0 f.1) (unknown_person (people_in ms).persons ms) ≡ Some w
-    → HasFault ms UnknownName w
-person_placed ms w h =
-    let persons = (people_in ms).persons in
-    let (x, found, is) = mapped_some (λ f. place.person_of f.0 f.1) (unknown_person persons ms) w h in
-    subst (HasFault ms UnknownName) is (person_has persons (table_at (codes "tokens") ms) x found)
+person_placed : (ms : Members) → knows_persons (people_in ms) (tokens_of ms) ≡ false
+    → Stands (HasFault ms UnknownName) (person_place (people_in ms) (tokens_of ms))
+person_placed ms h =
+    let (t, is, unknown) = failing (λ t. knows (people_in ms) t.person) (tokens_of ms) h in (
+      place.person_of t.token t.person,
+      ap (option_map (λ t. place.person_of t.token t.person)) is,
+      (
+        find_any (λ t. not (knows (people_in ms) t.person))
+            (λ u. bytes_eq u.token t.token && bytes_eq u.person t.person) (tokens_of ms) t is
+            (and_both (bytes_eq t.token t.token) (bytes_eq t.person t.person) (itself t.token)
+            (itself t.person)),
+        unknown,
+      ),
+    )
 
-name_has : (ms : Members) (w : FaultPlace) → named_place ms ≡ Some w → HasFault ms UnknownName w
-name_has ms w h =
-    let ls = tables.lifecycles_of ms in
-    let by_calendar : Option FaultPlace =
-    option_map (λ f. place.calendar_of f.0 f.1) (unknown_calendar ms) in
-    let by_status : Option FaultPlace =
-    option_map (λ f. place.status_of f.0 f.1) (unknown_status (knows_status ls) ms) in
-    let by_person : Option FaultPlace =
-    option_map (λ f. place.person_of f.0 f.1) (unknown_person (people_in ms).persons ms) in
-    ⊎_elim (right_placed ms w)
-    (λ after. ⊎_elim (level_calendar_placed ms w)
-    (λ after. ⊎_elim (status_placed ms w) (λ after. person_placed ms w after.1)
-    (either_some by_status by_person w after.1))
-    (either_some by_calendar (option_or by_status by_person) w after.1))
-    (either_some (option_map (λ f. place.right f.0 f.1) (unknown_right (knows_right ls) ms))
-    (option_or by_calendar (option_or by_status by_person)) w h)
-
--- where no lifecycle has a fault
-name_placed : (ms : Members) → tables.lifecycles_fault ms ≡ None → knows_names ms ≡ false
+-- where neither a calendar, a lifecycle nor the people have a fault
+name_placed : (ms : Members) → build_fault ms ≡ None → knows_names ms ≡ false
     → HasPlace ms UnknownName
 name_placed ms sound h =
-    let (w, found) = some_of (named_place ms) (name_found ms h) in
+    let ls = tables.lifecycles_of ms in
+    let levels = levels_of ms in
+    let parts = people_in ms in
+    let IsSo : FaultPlace → Type 0 = HasFault ms UnknownName in
+    let rights = knows_rights ls parts.grants in
+    let calendars = knows_calendars ms levels in
+    let statuses = knows_ignored ls levels in
+    let persons = knows_persons parts (tokens_of ms) in
+    let by_calendar = calendar_place ms levels in
+    let by_status = status_place ls levels in
+    let by_person = person_place parts (tokens_of ms) in
+    let (found, is, so) =
+    first_stands IsSo rights (calendars && (statuses && persons)) (right_place ms ls parts.grants)
+    (option_or by_calendar (option_or by_status by_person))
+    (grouped_four rights calendars statuses persons h) (right_placed ms)
+    (λ known. ap
+    (option_and_then
+    (λ i. option_map (λ at. place.right at.0 at.2.right) (grant_at ms parts.grants i)))
+    (no_failing_at (λ g. knows_right ls g.right) parts.grants known))
+    (λ rest. first_stands IsSo calendars (statuses && persons) by_calendar
+    (option_or by_status by_person) rest (level_calendar_placed ms)
+    (λ known. ap (option_map (λ l. place.calendar_of l.name l.value.calendar))
+    (no_failing (λ l. knows_calendar ms l.value.calendar) levels known))
+    (λ rest. first_stands IsSo statuses persons by_status by_person rest (status_placed ms)
+    (λ known. ap
+    (option_and_then
+    (λ l. option_map (place.status_of l.name) (find (λ s. not (knows_status ls s)) l.value.ignore)))
+    (no_failing_by (λ l. list_all (knows_status ls) l.value.ignore)
+    (λ l. is_some (find (λ s. not (knows_status ls s)) l.value.ignore))
+    (λ l. one_fails (knows_status ls) (λ s. not (knows_status ls s)) (λ s. refl) l.value.ignore)
+    levels known))
+    (person_placed ms))) in
     let asked : name_place ms ≡ named_place ms =
     ap (λ (o : Option SettingsFault). if is_some o then None else named_place ms) sound in
-    (w, asked ∙ found, name_has ms w found)
+    (found, asked ∙ is, so)
 
 -- ---- tokens and limits
 
 token_placed : (ms : Members) → has_tokens ms ≡ false → HasPlace ms BadToken
 token_placed ms h =
-    let tokens = table_at (codes "tokens") ms in
-    let (x, found) = some_of (bad_token ms) (token_found tokens h) in (
-      place.token x.0 x.1,
-      ap (option_map (λ f. place.token f.0 f.1)) found,
-      token_has tokens x found,
+    let (t, is, bad) = failing (λ t. is_token t.token) (tokens_of ms) h in (
+      place.token t.token t.person,
+      ap (option_map (λ t. place.token t.token t.person)) is,
+      (
+        find_any (λ t. not (is_token t.token))
+            (λ u. bytes_eq u.token t.token && bytes_eq u.person t.person) (tokens_of ms) t is
+            (and_both (bytes_eq t.token t.token) (bytes_eq t.person t.person) (itself t.token)
+            (itself t.person)),
+        bad,
+      ),
     )
-
-count_found : (first second : Bool) (k l : List ℕ) → (first && second) ≡ false
-    → is_some (if first then (if second then None else Some l) else Some k) ≡ true
-count_found false second k l h = refl
-count_found true false k l h = refl
-count_found true true k l h = absurd (cc)
 
 count_has : (ms : Members) (k : List ℕ) → bad_count ms ≡ Some k → IsBadCount ms k
 count_has ms k h =
@@ -517,9 +581,9 @@ limit_told ms h =
     some_either (have_limits levels) (requests && entries)
     (option_map (λ f. place.limit f.0 f.1) (bad_limit ms))
     (option_map place.count (bad_count ms)) (grouped (have_limits levels) requests entries h)
-    (λ bad. some_mapped (λ f. place.limit f.0 f.1) (bad_limit ms) (limit_found levels bad))
+    (λ bad. some_mapped (λ f. place.limit f.0 f.1) (bad_limit ms) (limit_fails levels ∙ ap not bad))
     (λ bad. some_mapped place.count (bad_count ms)
-    (count_found requests entries (codes "max_requests") (codes "max_entries") bad))
+    (count_fails ms ∙ ap not bad))
 
 level_placed : (ms : Members) (w : FaultPlace)
     → option_map (λ f. place.limit f.0 f.1) (bad_limit ms) ≡ Some w → HasFault ms BadLimit w
@@ -546,14 +610,14 @@ limit_placed ms h =
 
 -- ---- all
 
-late_placed : (ms : Members) (f : SettingsFault) → tables.lifecycles_fault ms ≡ None
+late_placed : (ms : Members) (f : SettingsFault) → build_fault ms ≡ None
     → late_fault ms ≡ Some f → HasPlace ms f
 late_placed ms f sound h =
     when_or (HasPlace ms) (not (knows_names ms)) UnknownName _ f h
     (λ is. name_placed ms sound (not_true (knows_names ms) is))
-    (λ rest. when_or (HasPlace ms) (not (has_tokens ms)) BadToken _ f rest
+    (λ known rest. when_or (HasPlace ms) (not (has_tokens ms)) BadToken _ f rest
     (λ is. token_placed ms (not_true (has_tokens ms) is))
-    (λ rest. when_only (HasPlace ms) (not (has_limits ms)) BadLimit f rest
+    (λ good rest. when_only (HasPlace ms) (not (has_limits ms)) BadLimit f rest
     (λ is. limit_placed ms (not_true (has_limits ms) is))))
 
 table_placed : (ms : Members) (f : SettingsFault) → table_fault ms ≡ Some f → HasPlace ms f
@@ -565,9 +629,7 @@ table_placed ms f h =
     (λ after. ⊎_elim (lifecycle_placed ms f) (λ after. rights_placed ms f after.1)
     (either_some (tables.lifecycles_fault ms) by_rights f after.1))
     (either_some (calendars.calendars_fault ms) by_lifecycles f built))
-    (λ after. late_placed ms f
-    (none_either (tables.lifecycles_fault ms) by_rights
-    (none_either (calendars.calendars_fault ms) by_lifecycles after.0).1).0 after.1)
+    (λ after. late_placed ms f after.0 after.1)
     (either_some (option_or (calendars.calendars_fault ms) by_lifecycles) (late_fault ms) f h)
 
 has_place : (ms : Members) (f : SettingsFault) → fault_of ms ≡ Some f → HasPlace ms f

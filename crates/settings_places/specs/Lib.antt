@@ -1,12 +1,7 @@
-pub mod BadNames
-pub mod Limits
+pub mod Grants
 pub mod Lines
-pub mod Names
 pub mod Parts
-pub mod People
 pub mod Place
 pub mod Placed
 pub mod Reading
-pub mod Tokens
 pub mod Told
-pub mod Values

@@ -1,29 +1,40 @@
 -- What of a settings text has its fault first.
-use Rattle.std.specs.Prelude.{ℕ, Bool, List, Option, Some, None, codes, is_some, if◌then◌else◌}
+use Rattle.std.specs.Prelude.{ℕ, Bool, not, List, [], ◌∷◌, Option, Some, None, codes, find, is_some}
+use Rattle.std.specs.Prelude.{option_and_then, unwrap_or, if◌then◌else◌}
+use Rattle.std.specs.List.{position}
 use Rattle.std.specs.Option.{option_map, option_or}
 use Rattle.toml.specs.Data.{Members}
+use Rattle.hours_core.specs.declared.level.Level.{Level}
+use Rattle.lifecycle_core.specs.declared.parts.Parts as lifecycles
+use Rattle.text_core.specs.Form.{is_name}
+use Rattle.rights_core.specs.People.{is_among, knows}
+use Rattle.rights_core.specs.RightsFaults.{has_grant_names, has_group, is_there, misname}
+use Rattle.rights_core.specs.RightsFaults.{repeats_name, stranger}
 use Rattle.rights_core.specs.declared.fault.RightsFault.{RightsFault}
 use Rattle.rights_core.specs.declared.fault.RightsFault.TheVariants as rights
+use Rattle.rights_core.specs.declared.grant.Grant.{Grant}
+use Rattle.rights_core.specs.declared.parts.Parts.{Parts}
+use Rattle.settings_form.specs.Places.{KeyAt, fault_key, seen_key}
 use Rattle.settings_form.specs.declared.fault.FormFault.{FormFault}
 use Rattle.settings_form.specs.declared.fault.FormFault.TheVariants as form
-use Rattle.settings_parts.specs.PeopleParts.{people_in}
-use Rattle.settings_parts.specs.Values.{texts_at}
-use Rattle.settings_core.specs.Lifecycles.{lifecycles_fault, lifecycles_of}
+use Rattle.settings_parts.specs.PeopleParts.{people_in, tokens_of}
+use Rattle.settings_parts.specs.Values.{text_at}
+use Rattle.settings_parts.specs.declared.people.Token.{Token}
+use Rattle.settings_core.specs.Levels.{levels_of}
+use Rattle.settings_core.specs.Lifecycles.{lifecycles_of}
+use Rattle.settings_core.specs.Names.{knows_calendar, knows_right, knows_status}
+use Rattle.settings_core.specs.Reading.{build_fault}
+use Rattle.settings_core.specs.Tokens.{is_token}
 use Rattle.settings_core.specs.declared.fault.SettingsFault.{SettingsFault}
 use Rattle.settings_core.specs.declared.fault.SettingsFault.TheVariants.{NotToml, UnknownKey}
 use Rattle.settings_core.specs.declared.fault.SettingsFault.TheVariants.{Missing, WrongKind, Hours}
 use Rattle.settings_core.specs.declared.fault.SettingsFault.TheVariants.{Lifecycle, Rights}
 use Rattle.settings_core.specs.declared.fault.SettingsFault.TheVariants.{UnknownName, BadToken}
 use Rattle.settings_core.specs.declared.fault.SettingsFault.TheVariants.{BadLimit, NoMemory}
-use Rattle.settings_core.specs.Names.{knows_right, knows_status}
-use Rattle.settings_places.specs.BadNames.{bad_granted, bad_group, bad_person}
-use Rattle.settings_places.specs.Limits.{bad_count, bad_limit}
-use Rattle.settings_places.specs.Names.{unknown_calendar, unknown_person, unknown_right, unknown_status}
+use Rattle.settings_core.specs.declared.named.Named.{Named}
+use Rattle.settings_places.specs.Grants.{grant_at}
+use Rattle.settings_core.specs.Limits.{bad_count, bad_limit}
 use Rattle.settings_places.specs.Parts.{bad_calendar, bad_lifecycle}
-use Rattle.settings_places.specs.People.{person_again, person_as_group, unknown_member}
-use Rattle.settings_places.specs.People.{unknown_subject}
-use Rattle.settings_form.specs.Places.{KeyAt, fault_key, seen_key}
-use Rattle.settings_places.specs.Tokens.{bad_token}
 use Rattle.settings_places.specs.declared.place.FaultPlace.{FaultPlace as PlaceInCode}
 use Rattle.settings_places.specs.declared.place.FaultPlace.TheVariants as code
 
@@ -54,50 +65,107 @@ pub data FaultPlace : Type 0 where
 abbrev pub key_place : FormFault → Members → Option FaultPlace
 key_place f ms = option_map key (fault_key f ms)
 
+-- ---- persons, groups and grants
+
+abbrev pub granted_place : Members → Parts → Option FaultPlace
+granted_place ms parts =
+    option_and_then
+    (λ i. option_and_then
+    (λ at. option_map (granted at.0) (misname at.2)) (grant_at ms parts.grants i))
+    (position (λ g. not (has_grant_names g)) parts.grants)
+
 -- a person, a group, or a right or the queue of a grant
-abbrev pub bad_name : Members → Option FaultPlace
-bad_name ms =
-    option_or (option_map person_named (bad_person ms))
-    (option_or (option_map group_named (bad_group ms))
-    (option_map (λ found. granted found.0 found.1) (bad_granted ms)))
+abbrev pub misnamed_place : Members → Parts → Option FaultPlace
+misnamed_place ms parts =
+    option_or (option_map person_named (find (λ name. not (is_name name)) parts.persons))
+    (option_or
+    (option_map (λ g. group_named g.name) (find (λ g. not (is_name g.name)) parts.groups))
+    (granted_place ms parts))
+
+-- the first of the names that is one of those before it
+abbrev pub first_again : List (List ℕ) → List (List ℕ) → Option (List ℕ)
+first_again earlier [] = None
+first_again earlier (name ∷ names) =
+    if is_among earlier name then Some name else first_again (name ∷ earlier) names
 
 -- two persons, or else a person and a group; or two groups, which a table can't have
-abbrev pub repeated_name : Members → Option FaultPlace
-repeated_name ms =
-    option_or (option_map person_twice (person_again ms))
-    (option_or (option_map person_and_group (person_as_group ms)) (Some people))
+abbrev pub repeated_place : Parts → Option FaultPlace
+repeated_place parts =
+    option_or (option_map person_twice (first_again [] parts.persons))
+    (option_or (option_map person_and_group (find (has_group parts.groups) parts.persons))
+    (Some people))
 
-abbrev pub member_place : List (List ℕ) → Members → Option FaultPlace
-member_place persons ms =
-    option_map (λ found. group_member found.0 found.1) (unknown_member persons ms)
+-- a group by its first member that is no one, where no name stands twice
+abbrev pub member_place : Parts → Option FaultPlace
+member_place parts =
+    if repeats_name parts.persons parts.groups then None
+    else option_and_then
+    (λ g. option_map (group_member g.name) (stranger parts.persons parts.groups g.members))
+    (find (λ g. is_some (stranger parts.persons parts.groups g.members)) parts.groups)
 
-abbrev pub subject_place : List (List ℕ) → Members → Option FaultPlace
-subject_place persons ms =
-    option_map (λ found. subject found.0 found.1) (unknown_subject persons ms)
+-- a grant by the text that says for whom it is, where no name stands twice
+abbrev pub subject_place : Members → Parts → Option FaultPlace
+subject_place ms parts =
+    if repeats_name parts.persons parts.groups then None
+    else option_and_then
+    (λ i. option_map
+    (λ at. subject at.0 (unwrap_or (text_at (codes "to") at.1) [])) (grant_at ms parts.grants i))
+    (position (λ g. not (is_there parts.persons parts.groups g.subject)) parts.grants)
 
 abbrev pub people_place : Members → RightsFault → Option FaultPlace
-people_place ms rights.BadName = bad_name ms
-people_place ms rights.UnknownMember = member_place (texts_at (codes "persons") ms) ms
-people_place ms rights.UnknownSubject = subject_place (texts_at (codes "persons") ms) ms
-people_place ms rights.Repeated = repeated_name ms
+people_place ms rights.BadName = misnamed_place ms (people_in ms)
+people_place ms rights.UnknownMember = member_place (people_in ms)
+people_place ms rights.UnknownSubject = subject_place ms (people_in ms)
+people_place ms rights.Repeated = repeated_place (people_in ms)
 people_place ms rights.NoMemory = Some people
 
+-- ---- names
+
+abbrev pub right_place : Members → List (Named lifecycles.Parts) → List Grant → Option FaultPlace
+right_place ms ls grants =
+    option_and_then
+    (λ i. option_map (λ at. right at.0 at.2.right) (grant_at ms grants i))
+    (position (λ g. not (knows_right ls g.right)) grants)
+
+abbrev pub calendar_place : Members → List (Named Level) → Option FaultPlace
+calendar_place ms levels =
+    option_map
+    (λ l. calendar_of l.name l.value.calendar)
+    (find (λ l. not (knows_calendar ms l.value.calendar)) levels)
+
+abbrev pub status_place : List (Named lifecycles.Parts) → List (Named Level) → Option FaultPlace
+status_place ls levels =
+    option_and_then
+    (λ l. option_map (status_of l.name) (find (λ s. not (knows_status ls s)) l.value.ignore))
+    (find (λ l. is_some (find (λ s. not (knows_status ls s)) l.value.ignore)) levels)
+
+abbrev pub person_place : Parts → List Token → Option FaultPlace
+person_place parts tokens =
+    option_map
+    (λ t. person_of t.token t.person)
+    (find (λ t. not (knows parts t.person)) tokens)
+
 -- a granted right, a level's calendar, a status that one ignores, a token's person
-abbrev pub unknown_name : (List ℕ → Bool) → (List ℕ → Bool) → List (List ℕ) → Members → Option FaultPlace
-unknown_name is_right is_status persons ms =
-    option_or (option_map (λ found. right found.0 found.1) (unknown_right is_right ms))
-    (option_or (option_map (λ found. calendar_of found.0 found.1) (unknown_calendar ms))
-    (option_or (option_map (λ found. status_of found.0 found.1) (unknown_status is_status ms))
-    (option_map (λ found. person_of found.0 found.1) (unknown_person persons ms))))
+abbrev pub unknown_name : Members → List (Named lifecycles.Parts) → Parts → List (Named Level)
+    → List Token → Option FaultPlace
+unknown_name ms ls parts levels tokens =
+    option_or (right_place ms ls parts.grants)
+    (option_or (calendar_place ms levels)
+    (option_or (status_place ls levels) (person_place parts tokens)))
 
 abbrev pub named_place : Members → Option FaultPlace
 named_place ms =
-    unknown_name (knows_right (lifecycles_of ms)) (knows_status (lifecycles_of ms))
-    (people_in ms).persons ms
+    unknown_name ms (lifecycles_of ms) (people_in ms) (levels_of ms) (tokens_of ms)
 
--- where a lifecycle has a fault of its own, which rights and statuses there are isn't known
+-- which names there are isn't known where a calendar, a lifecycle or the people have a fault
 abbrev pub name_place : Members → Option FaultPlace
-name_place ms = if is_some (lifecycles_fault ms) then None else named_place ms
+name_place ms = if is_some (build_fault ms) then None else named_place ms
+
+-- ---- tokens and limits
+
+abbrev pub token_place : Members → Option FaultPlace
+token_place ms =
+    option_map (λ t. token t.token t.person) (find (λ t. not (is_token t.token)) (tokens_of ms))
 
 -- a limit of a level, or else a count
 abbrev pub limit_place : Members → Option FaultPlace
@@ -115,7 +183,7 @@ place_of_fault ms (Hours fault) = option_map calendar (bad_calendar ms)
 place_of_fault ms (Lifecycle fault) = option_map lifecycle (bad_lifecycle ms)
 place_of_fault ms (Rights fault) = people_place ms fault
 place_of_fault ms UnknownName = name_place ms
-place_of_fault ms BadToken = option_map (λ found. token found.0 found.1) (bad_token ms)
+place_of_fault ms BadToken = token_place ms
 place_of_fault ms BadLimit = limit_place ms
 place_of_fault ms NoMemory = None
 
@@ -125,18 +193,18 @@ abbrev pub seen : PlaceInCode → FaultPlace
 seen (code.Key found) = key (seen_key found)
 seen (code.Calendar name) = calendar name.now
 seen (code.Lifecycle name) = lifecycle name.now
-seen (code.Person name) = person_named name.now
-seen (code.Group name) = group_named name.now
-seen (code.Granted n name) = granted n name.now
-seen (code.Member group name) = group_member group.now name.now
-seen (code.Subject n to) = subject n to.now
-seen (code.PersonTwice name) = person_twice name.now
-seen (code.PersonAndGroup name) = person_and_group name.now
+seen (code.Person name) = person_named name
+seen (code.Group name) = group_named name
+seen (code.Granted n name) = granted n name
+seen (code.Member group name) = group_member group name
+seen (code.Subject n to) = subject n to
+seen (code.PersonTwice name) = person_twice name
+seen (code.PersonAndGroup name) = person_and_group name
 seen code.People = people
-seen (code.Right n name) = right n name.now
-seen (code.CalendarOf of name) = calendar_of of.now name.now
-seen (code.StatusOf of name) = status_of of.now name.now
-seen (code.PersonOf of name) = person_of of.now name.now
-seen (code.Token of name) = token of.now name.now
+seen (code.Right n name) = right n name
+seen (code.CalendarOf of name) = calendar_of of name
+seen (code.StatusOf of name) = status_of of name
+seen (code.PersonOf of name) = person_of of name
+seen (code.Token of name) = token of name
 seen (code.Limit of name) = limit of.now name.now
 seen (code.Count name) = count name.now

@@ -2,19 +2,17 @@
 //! in.
 //!
 //! `settings_core` tells which fault a text has. What is found here is the first that has it, by
-//! the order of keys, and of the rows of a list; each rule is asked where it stands. `read_telling`
-//! reads a text and tells both.
+//! the order of keys, and of the rows of a list: the rules are those below, which answer what they
+//! refuse. `read_telling` reads a text and tells both.
 #![tactic(auto)]
 
-pub mod bad_names;
+mod grants;
 pub mod laws;
-pub mod limits;
 pub mod lines;
-pub mod names;
+mod names;
 pub mod parts;
-pub mod people;
+mod people;
 pub mod place;
 pub mod reading;
-pub mod tokens;
+mod tokens;
 mod told;
-mod values;

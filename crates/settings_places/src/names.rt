@@ -1,172 +1,132 @@
-//! The first name of a settings text that isn't known.
+//! The name that isn't known.
 
-ghost use Rattle.std.specs.Prelude.{◌≡◌};
-ghost use Rattle.std.specs.HashSet.{contains_text};
-ghost use Rattle.std.specs.Option.{option_copied, option_map};
-ghost use Rattle.toml.specs.View.{array_view, table_view, view};
-ghost use Rattle.settings_parts.specs.Values.{texts_in};
-ghost use Rattle.settings_places.specs.Names as spec;
+ghost use Rattle.std.specs.Prelude.{◌≡◌, IfOk};
+ghost use Rattle.std.specs.Option.{option_map};
+ghost use Rattle.toml.specs.View.{table_view};
+ghost use Rattle.settings_core.specs.Settings.{lifecycles_of, levels_of, people_of, tokens_of};
+ghost use Rattle.settings_places.specs.Place as spec;
 
-use crate::values::{text_at, text_of};
-use settings_core::known::Names;
-use settings_core::names::{is_known, knows_calendar};
-use settings_parts::values::{array_at, table_at, table_of};
-use text_core::IndexedTexts;
-use toml::value::Array;
-use toml::{Table, Value};
+use crate::grants::grant_at;
+use crate::place::FaultPlace;
+use lifecycle_core::Lifecycle;
+use rights_core::{Grant, People};
+use hours_core::Level;
+use settings_core::known::statuses_of;
+use settings_core::names::{
+    ignoring_other, other_status, unknown_calendar, unknown_person, unknown_right,
+};
+use settings_core::{Named, Settings, SettingsFault};
+use settings_parts::people::Token;
+use std::alloc::{AllocError, Global};
+use toml::Table;
 
-/// The first granted right that is neither standard nor one of these: which grant it is of, from 1,
-/// and the right.
-pub fn unknown_right<'t>(named: &Names, table: &'t Table) -> Option<(usize, &'t str)>
-    ensures { option_map (λ f. (f.0, f.1.now)) result
-        ≡ spec.unknown_right (spec.is_known_by (contains_text named.now)) (table_view table.now) }
+/// The first name that isn't known: a granted right, a level's calendar, a status that a level
+/// ignores, or a token's person. None where a calendar, a lifecycle or the people have a fault.
+pub(crate) fn name_place<'t>(
+    alloc: Global,
+    table: &Table,
+) -> Result<Option<FaultPlace<'t>>, AllocError>
+    ensures { IfOk result (λ place. option_map spec.seen place
+        ≡ spec.name_place (table_view table.now)) }
 {
-    match array_at(table, "grant") {
-        Some(grants) => unknown_grant(named, grants),
-        None => None,
+    match Settings::built(alloc, table) {
+        Ok(settings) => unknown_name(alloc, table, &settings),
+        Err(SettingsFault::NoMemory) => Err(AllocError),
+        Err(_) => Ok(None),
     }
 }
 
-fn unknown_grant<'t>(named: &Names, grants: &'t Array) -> Option<(usize, &'t str)>
-    ensures { option_map (λ f. (f.0, f.1.now)) result
-        ≡ spec.unknown_grant (spec.is_known_by (contains_text named.now)) 1 (array_view grants.now) }
+fn unknown_name<'t>(
+    alloc: Global,
+    table: &Table,
+    settings: &Settings,
+) -> Result<Option<FaultPlace<'t>>, AllocError>
+    ensures { IfOk result (λ place. option_map spec.seen place
+        ≡ spec.unknown_name (table_view table.now) (lifecycles_of settings.now)
+        (people_of settings.now) (levels_of settings.now) (tokens_of settings.now)) }
 {
-    let mut number = 0;
-    for grant in grants {
-        number += 1;
-        if let Some(right) = unknown_of(named, grant) {
-            return Some((number, right));
-        }
+    let people = settings.people();
+    let grants = people.parts().grants.as_slice();
+    let right = right_place(alloc, table, settings.lifecycles(), grants)?;
+    if right.is_some() {
+        return Ok(right);
     }
-    None
+    let calendar = calendar_place(table, settings.levels())?;
+    if calendar.is_some() {
+        return Ok(calendar);
+    }
+    let status = status_place(alloc, settings.lifecycles(), settings.levels())?;
+    if status.is_some() {
+        return Ok(status);
+    }
+    person_place(people, settings.tokens())
 }
 
-/// The first right of a grant that isn't known.
-fn unknown_of<'t>(named: &Names, grant: &'t Value) -> Option<&'t str>
-    ensures { option_copied result
-        ≡ spec.unknown_of (spec.is_known_by (contains_text named.now)) (view grant.now) }
+/// The first grant of a right that isn't known, and the right.
+fn right_place<'t>(
+    alloc: Global,
+    table: &Table,
+    lifecycles: &[Named<Lifecycle>],
+    grants: &[Grant],
+) -> Result<Option<FaultPlace<'t>>, AllocError>
+    ensures { IfOk result (λ place. option_map spec.seen place
+        ≡ spec.right_place (table_view table.now) lifecycles.now grants.now) }
 {
-    match table_of(grant) {
-        Some(table) => match array_at(table, "rights") {
-            Some(rights) => unknown_among(named, rights),
-            None => None,
-        },
-        None => None,
-    }
-}
-
-#[tactic(auto, unfolding(crate::specs::Names::is_known_by))]
-fn unknown_among<'t>(named: &Names, rights: &'t Array) -> Option<&'t str>
-    ensures { option_copied result
-        ≡ spec.unknown_among (spec.is_known_by (contains_text named.now))
-        (texts_in (array_view rights.now)) }
-{
-    for value in rights {
-        if let Some(right) = value.as_str() {
-            if !is_known(named, right) {
-                return Some(right);
-            }
-        }
-    }
-    None
-}
-
-/// The first level whose calendar isn't one of the text, nor `default`: its name, and the
-/// calendar's.
-pub fn unknown_calendar<'t>(table: &'t Table) -> Option<(&'t str, &'t str)>
-    ensures { option_map (λ f. (f.0.now, f.1.now)) result
-        ≡ spec.unknown_calendar (table_view table.now) }
-{
-    match table_at(table, "level") {
-        Some(levels) => unknown_calendar_in(table, levels),
-        None => None,
+    let Some(index) = unknown_right(alloc, lifecycles, grants)? else {
+        return Ok(None);
+    };
+    match grant_at(alloc, table, grants, index)? {
+        Some((number, _, grant)) => Ok(Some(FaultPlace::Right(number, grant.right.clone()?))),
+        None => Ok(None),
     }
 }
 
-fn unknown_calendar_in<'t>(table: &Table, levels: &'t Table) -> Option<(&'t str, &'t str)>
-    ensures { option_map (λ f. (f.0.now, f.1.now)) result
-        ≡ spec.unknown_calendar_in (table_view table.now) (table_view levels.now) }
+/// The first level whose calendar isn't known, and the calendar.
+fn calendar_place<'t>(
+    table: &Table,
+    levels: &[Named<Level>],
+) -> Result<Option<FaultPlace<'t>>, AllocError>
+    ensures { IfOk result (λ place. option_map spec.seen place
+        ≡ spec.calendar_place (table_view table.now) levels.now) }
 {
-    for (name, value) in levels.iter() {
-        let calendar = text_at(value, "calendar");
-        if !knows_calendar(table, calendar) {
-            return Some((name.as_str(), calendar));
-        }
-    }
-    None
-}
-
-/// The first level that ignores a status that is none of these: its name, and the status.
-pub fn unknown_status<'t>(statuses: &Names, table: &'t Table) -> Option<(&'t str, &'t str)>
-    ensures { option_map (λ f. (f.0.now, f.1.now)) result
-        ≡ spec.unknown_status (contains_text statuses.now) (table_view table.now) }
-{
-    match table_at(table, "level") {
-        Some(levels) => unknown_status_in(statuses, levels),
-        None => None,
+    match unknown_calendar(table, levels) {
+        Some(level) => Ok(Some(FaultPlace::CalendarOf(
+            level.name.clone()?,
+            level.value.calendar.clone()?,
+        ))),
+        None => Ok(None),
     }
 }
 
-fn unknown_status_in<'t>(statuses: &Names, levels: &'t Table) -> Option<(&'t str, &'t str)>
-    ensures { option_map (λ f. (f.0.now, f.1.now)) result
-        ≡ spec.unknown_status_in (contains_text statuses.now) (table_view levels.now) }
+/// The first level that ignores a status that isn't known, and the status.
+fn status_place<'t>(
+    alloc: Global,
+    lifecycles: &[Named<Lifecycle>],
+    levels: &[Named<Level>],
+) -> Result<Option<FaultPlace<'t>>, AllocError>
+    ensures { IfOk result (λ place. option_map spec.seen place
+        ≡ spec.status_place lifecycles.now levels.now) }
 {
-    for (name, value) in levels.iter() {
-        if let Some(status) = ignored_unknown(statuses, value) {
-            return Some((name.as_str(), status));
-        }
-    }
-    None
-}
-
-/// The first status that a level ignores and that isn't known.
-fn ignored_unknown<'t>(statuses: &Names, level: &'t Value) -> Option<&'t str>
-    ensures { option_copied result
-        ≡ spec.ignored_unknown (contains_text statuses.now) (view level.now) }
-{
-    match table_of(level) {
-        Some(table) => match array_at(table, "ignore") {
-            Some(ignored) => status_among(statuses, ignored),
-            None => None,
-        },
-        None => None,
+    let statuses = statuses_of(alloc, lifecycles)?;
+    let Some(level) = ignoring_other(&statuses, levels) else {
+        return Ok(None);
+    };
+    match other_status(&statuses, level.value.ignore.as_slice()) {
+        Some(status) => Ok(Some(FaultPlace::StatusOf(level.name.clone()?, status.clone()?))),
+        None => Ok(None),
     }
 }
 
-fn status_among<'t>(statuses: &Names, ignored: &'t Array) -> Option<&'t str>
-    ensures { option_copied result
-        ≡ spec.unknown_among (contains_text statuses.now) (texts_in (array_view ignored.now)) }
+/// The first token whose person isn't known, and the person.
+fn person_place<'t>(people: &People, tokens: &[Token]) -> Result<Option<FaultPlace<'t>>, AllocError>
+    ensures { IfOk result (λ place. option_map spec.seen place
+        ≡ spec.person_place people.now tokens.now) }
 {
-    for value in ignored {
-        if let Some(status) = value.as_str() {
-            if !statuses.contains(status) {
-                return Some(status);
-            }
-        }
+    match unknown_person(people, tokens) {
+        Some(found) => Ok(Some(FaultPlace::PersonOf(
+            found.token.clone()?,
+            found.person.clone()?,
+        ))),
+        None => Ok(None),
     }
-    None
-}
-
-/// The first token whose person is none of these: the token, and the person.
-pub fn unknown_person<'t>(persons: &IndexedTexts, table: &'t Table) -> Option<(&'t str, &'t str)>
-    ensures { option_map (λ f. (f.0.now, f.1.now)) result
-        ≡ spec.unknown_person persons.now (table_view table.now) }
-{
-    match table_at(table, "tokens") {
-        Some(tokens) => unknown_person_in(persons, tokens),
-        None => None,
-    }
-}
-
-fn unknown_person_in<'t>(persons: &IndexedTexts, tokens: &'t Table) -> Option<(&'t str, &'t str)>
-    ensures { option_map (λ f. (f.0.now, f.1.now)) result
-        ≡ spec.unknown_person_in persons.now (table_view tokens.now) }
-{
-    for (token, value) in tokens.iter() {
-        let person = text_of(value);
-        if !persons.contains(person) {
-            return Some((token.as_str(), person));
-        }
-    }
-    None
 }

@@ -1,32 +1,18 @@
-//! The lifecycles and calendars of a settings text: which has a fault first.
+//! Which lifecycle and which calendar of a settings text has a fault first.
 
-ghost use Rattle.std.specs.Prelude.{◌≡◌, ◌≢◌, IfErr, IfOk, None, Some, is_some};
+ghost use Rattle.std.specs.Prelude.{◌≡◌, IfOk, is_some};
 ghost use Rattle.std.specs.Option.{option_copied};
 ghost use Rattle.toml.specs.View.{view, table_view};
 ghost use Rattle.settings_parts.specs.Values.{members_of, table_at as members_at};
-ghost use Rattle.settings_core.specs.Lifecycles as lifecycles;
-ghost use Rattle.settings_core.specs.declared.fault.SettingsFault.TheVariants.{NoMemory};
 ghost use Rattle.settings_places.specs.Parts as spec;
 
 use lifecycle_core::Lifecycle;
 use settings_core::calendars::Opening;
-use settings_core::stated::{Stated, stated_at, value_of};
-use settings_core::{Named, SettingsFault};
+use settings_core::stated::{Stated, value_of};
+use settings_core::SettingsFault;
 use settings_parts::values::table_at;
 use std::alloc::{AllocError, Global};
 use toml::{Table, Value};
-
-/// The lifecycles of a settings text by name, and the lifecycle `default` where it has none of that
-/// name. The fault is that of the first lifecycle that has one, or `NoMemory`.
-pub fn lifecycles_of(alloc: Global, table: &Table) -> Result<Vec<Named<Lifecycle>>, SettingsFault>
-    ensures ok { IfOk result (λ v. (lifecycles.lifecycles_fault (table_view table.now) ≡ None)
-        × (v.items ≡ lifecycles.lifecycles_of (table_view table.now))) }
-    ensures err { IfErr result (λ e. e ≢ NoMemory
-        → lifecycles.lifecycles_fault (table_view table.now) ≡ Some e) }
-{
-    let found: Vec<Named<Lifecycle>> = stated_at(alloc, table, "lifecycle")?;
-    Ok(found)
-}
 
 /// The name of the first lifecycle that has a fault.
 pub fn bad_lifecycle(alloc: Global, table: &Table) -> Result<Option<&str>, AllocError>

@@ -1,223 +1,160 @@
-//! The first name that stands twice among persons and groups; and the first member of a group, and
-//! the first grant, whose person or group isn't there.
+//! The person, the group or the grant that has a fault.
 
-ghost use Rattle.std.specs.Prelude.{◌≡◌, [], IfOk};
+ghost use Rattle.std.specs.Prelude.{◌≡◌, [], IfOk, find};
 ghost use Rattle.std.specs.Option.{option_copied, option_map};
-ghost use Rattle.toml.specs.View.{array_view, table_view, view};
-ghost use Rattle.settings_form.specs.Grantee as form;
-ghost use Rattle.settings_parts.specs.Values.{texts_at as texts_in_at, texts_in};
-ghost use Rattle.std.specs.Prelude.{codes};
-ghost use Rattle.settings_places.specs.People as spec;
+ghost use Rattle.toml.specs.View.{table_view};
+ghost use Rattle.rights_core.specs.RightsFaults.{has_group as has_group_in};
+ghost use Rattle.settings_places.specs.Place as spec;
 
-use crate::values::text_at;
-use settings_form::grantee::{Grantee, grantee_of};
-use settings_parts::values::{array_at, has_key, table_at, table_of, texts_at};
+use crate::grants::grant_at;
+use crate::place::FaultPlace;
+use rights_core::checks::{
+    grant_to_none, group_of_stranger, misname, misnamed_grant, misnamed_group, misnamed_person,
+    stranger,
+};
+use rights_core::directory::{Directory, has_group};
+use rights_core::{Group, Parts, RightsFault};
+use settings_parts::people::people_in;
+use settings_parts::values::text_or_empty;
 use std::alloc::{AllocError, Global};
 use std::collections::HashSet;
-use text_core::IndexedTexts;
-use toml::value::Array;
-use toml::{Table, Value};
+use text_core::Text;
+use toml::Table;
 
-/// The persons, of whom one is found by a set of them.
-pub fn persons_of(alloc: Global, table: &Table) -> Result<IndexedTexts, AllocError>
-    ensures { IfOk result (λ persons. persons ≡ texts_in_at (codes "persons") (table_view table.now)) }
+/// What has a fault of persons, groups and grants: the name that isn't of its form or stands twice,
+/// or the member or the grant that names one who isn't there.
+pub(crate) fn people_place<'t>(
+    alloc: Global,
+    table: &Table,
+    fault: RightsFault,
+) -> Result<Option<FaultPlace<'t>>, AllocError>
+    ensures { IfOk result (λ place. option_map spec.seen place
+        ≡ spec.people_place (table_view table.now) fault) }
 {
-    IndexedTexts::new(alloc, texts_at(alloc, table, "persons")?)
+    let parts = people_in(alloc, table)?;
+    match fault {
+        RightsFault::BadName => misnamed_place(alloc, table, &parts),
+        RightsFault::Repeated => repeated_place(alloc, &parts),
+        RightsFault::UnknownMember => member_place(alloc, &parts),
+        RightsFault::UnknownSubject => subject_place(alloc, table, &parts),
+        RightsFault::NoMemory => Ok(Some(FaultPlace::People)),
+    }
 }
 
-/// The first person whose name an earlier one has.
-pub fn person_again(alloc: Global, table: &Table) -> Result<Option<&str>, AllocError>
-    ensures { IfOk result (λ name.
-        option_copied name ≡ spec.person_again (table_view table.now)) }
+/// The first name that isn't of its form: a person's, a group's, or of a grant the right's or the
+/// queue's.
+fn misnamed_place<'t>(
+    alloc: Global,
+    table: &Table,
+    parts: &Parts,
+) -> Result<Option<FaultPlace<'t>>, AllocError>
+    ensures { IfOk result (λ place. option_map spec.seen place
+        ≡ spec.misnamed_place (table_view table.now) parts.now) }
 {
-    match array_at(table, "persons") {
-        Some(persons) => first_again(alloc, persons),
+    if let Some(person) = misnamed_person(parts.persons.as_slice()) {
+        return Ok(Some(FaultPlace::Person(person.clone()?)));
+    }
+    if let Some(group) = misnamed_group(parts.groups.as_slice()) {
+        return Ok(Some(FaultPlace::Group(group.name.clone()?)));
+    }
+    granted_place(alloc, table, parts)
+}
+
+fn granted_place<'t>(
+    alloc: Global,
+    table: &Table,
+    parts: &Parts,
+) -> Result<Option<FaultPlace<'t>>, AllocError>
+    ensures { IfOk result (λ place. option_map spec.seen place
+        ≡ spec.granted_place (table_view table.now) parts.now) }
+{
+    let grants = parts.grants.as_slice();
+    let Some(index) = misnamed_grant(grants) else {
+        return Ok(None);
+    };
+    let Some((number, _, grant)) = grant_at(alloc, table, grants, index)? else {
+        return Ok(None);
+    };
+    match misname(grant) {
+        Some(name) => Ok(Some(FaultPlace::Granted(number, name.clone()?))),
         None => Ok(None),
     }
 }
 
-fn first_again(alloc: Global, names: &Array) -> Result<Option<&str>, AllocError>
-    ensures { IfOk result (λ name.
-        option_copied name ≡ spec.first_again [] (texts_in (array_view names.now))) }
+/// The first name that stands twice: of two persons, or else of a person and a group.
+fn repeated_place<'t>(alloc: Global, parts: &Parts) -> Result<Option<FaultPlace<'t>>, AllocError>
+    ensures { IfOk result (λ place. option_map spec.seen place ≡ spec.repeated_place parts.now) }
+{
+    let persons = parts.persons.as_slice();
+    if let Some(name) = first_again(alloc, persons)? {
+        return Ok(Some(FaultPlace::PersonTwice(name.clone()?)));
+    }
+    match group_among(parts.groups.as_slice(), persons) {
+        Some(name) => Ok(Some(FaultPlace::PersonAndGroup(name.clone()?))),
+        None => Ok(Some(FaultPlace::People)),
+    }
+}
+
+/// The first of the names that an earlier one is.
+fn first_again(alloc: Global, names: &[Text]) -> Result<Option<&Text>, AllocError>
+    ensures { IfOk result (λ name. option_copied name ≡ spec.first_again [] names.now) }
 {
     let mut earlier = HashSet::new(alloc);
-    for value in names {
-        if let Some(name) = value.as_str() {
-            if earlier.contains(name) {
-                return Ok(Some(name));
-            }
-            earlier.insert(String::from_str(alloc, name)?)?;
+    for name in names {
+        if earlier.contains(name.as_str()) {
+            return Ok(Some(name));
         }
+        earlier.insert(String::from_str(alloc, name.as_str())?)?;
     }
     Ok(None)
 }
 
-/// The first person whose name a group has.
-pub fn person_as_group(table: &Table) -> Option<&str>
-    ensures { option_copied result ≡ spec.person_as_group (table_view table.now) }
+/// The first of the names that is a group's.
+fn group_among<'n>(groups: &[Group], names: &'n [Text]) -> Option<&'n Text>
+    ensures { option_copied result ≡ find (has_group_in groups.now) names.now }
 {
-    match array_at(table, "persons") {
-        Some(persons) => group_among(table, persons),
-        None => None,
+    names.iter().find(|name| has_group(groups, name.as_str()))
+}
+
+/// The first group with a member that is neither a person nor a group, and the member.
+fn member_place<'t>(alloc: Global, parts: &Parts) -> Result<Option<FaultPlace<'t>>, AllocError>
+    ensures { IfOk result (λ place. option_map spec.seen place ≡ spec.member_place parts.now) }
+{
+    let groups = parts.groups.as_slice();
+    let Some(directory) = Directory::of(alloc, parts.persons.as_slice(), groups) else {
+        return Ok(None);
+    };
+    let Some(group) = group_of_stranger(&directory, groups) else {
+        return Ok(None);
+    };
+    match stranger(&directory, group.members.as_slice()) {
+        Some(name) => Ok(Some(FaultPlace::Member(group.name.clone()?, name.clone()?))),
+        None => Ok(None),
     }
 }
 
-fn group_among<'t>(table: &Table, names: &'t Array) -> Option<&'t str>
-    ensures { option_copied result
-        ≡ spec.group_among (table_view table.now) (texts_in (array_view names.now)) }
-{
-    for value in names {
-        if let Some(name) = value.as_str() {
-            if is_group(table, name) {
-                return Some(name);
-            }
-        }
-    }
-    None
-}
-
-/// The first group that has a member which is none of these persons and no group: its name, and the
-/// member.
-pub fn unknown_member<'t>(persons: &IndexedTexts, table: &'t Table) -> Option<(&'t str, &'t str)>
-    ensures { option_map (λ f. (f.0.now, f.1.now)) result
-        ≡ spec.unknown_member persons.now (table_view table.now) }
-{
-    match table_at(table, "groups") {
-        Some(groups) => unknown_member_in(persons, table, groups),
-        None => None,
-    }
-}
-
-fn unknown_member_in<'t>(
-    persons: &IndexedTexts,
+/// The first grant for a person or a group that isn't there, and for whom it is.
+fn subject_place<'t>(
+    alloc: Global,
     table: &Table,
-    groups: &'t Table,
-) -> Option<(&'t str, &'t str)>
-    ensures { option_map (λ f. (f.0.now, f.1.now)) result
-        ≡ spec.unknown_member_in persons.now (table_view table.now) (table_view groups.now) }
+    parts: &Parts,
+) -> Result<Option<FaultPlace<'t>>, AllocError>
+    ensures { IfOk result (λ place. option_map spec.seen place
+        ≡ spec.subject_place (table_view table.now) parts.now) }
 {
-    for (group, value) in groups.iter() {
-        if let Some(member) = unknown_of(persons, table, value) {
-            return Some((group.as_str(), member));
+    let persons = parts.persons.as_slice();
+    let grants = parts.grants.as_slice();
+    let Some(directory) = Directory::of(alloc, persons, parts.groups.as_slice()) else {
+        return Ok(None);
+    };
+    let Some(index) = grant_to_none(&directory, grants) else {
+        return Ok(None);
+    };
+    match grant_at(alloc, table, grants, index)? {
+        Some((number, made_by, _)) => {
+            let to = text_or_empty(alloc, made_by, "to")?;
+            Ok(Some(FaultPlace::Subject(number, to)))
         }
-    }
-    None
-}
-
-/// The first of a group's members that is neither a person nor a group.
-fn unknown_of<'t>(persons: &IndexedTexts, table: &Table, group: &'t Value) -> Option<&'t str>
-    ensures { option_copied result
-        ≡ spec.unknown_of persons.now (table_view table.now) (view group.now) }
-{
-    match group.as_array() {
-        Some(members) => unknown_among(persons, table, members),
-        None => None,
-    }
-}
-
-fn unknown_among<'t>(persons: &IndexedTexts, table: &Table, members: &'t Array) -> Option<&'t str>
-    ensures { option_copied result ≡ spec.unknown_among persons.now (table_view table.now)
-        (texts_in (array_view members.now)) }
-{
-    for value in members {
-        if let Some(member) = value.as_str() {
-            if !is_named(persons, table, member) {
-                return Some(member);
-            }
-        }
-    }
-    None
-}
-
-/// Whether a person or a group has this name.
-fn is_named(persons: &IndexedTexts, table: &Table, name: &str) -> bool
-    ensures { result ≡ spec.is_named persons.now (table_view table.now) name.now }
-{
-    persons.contains(name) || is_group(table, name)
-}
-
-/// The first grant of any right for none of these persons and no group: which it is, from 1, and
-/// for whom.
-pub fn unknown_subject<'t>(persons: &IndexedTexts, table: &'t Table) -> Option<(usize, &'t str)>
-    ensures { option_map (λ f. (f.0, f.1.now)) result
-        ≡ spec.unknown_subject persons.now (table_view table.now) }
-{
-    match array_at(table, "grant") {
-        Some(grants) => unknown_subject_in(persons, table, grants),
-        None => None,
-    }
-}
-
-fn unknown_subject_in<'t>(
-    persons: &IndexedTexts,
-    table: &Table,
-    grants: &'t Array,
-) -> Option<(usize, &'t str)>
-    ensures { option_map (λ f. (f.0, f.1.now)) result
-        ≡ spec.unknown_subject_in persons.now (table_view table.now) 1 (array_view grants.now) }
-{
-    let mut number = 0;
-    for grant in grants {
-        number += 1;
-        let to = text_at(grant, "to");
-        if grants_any(grant) && !is_there(persons, table, to) {
-            return Some((number, to));
-        }
-    }
-    None
-}
-
-/// Whether a grant has a right.
-pub(crate) fn grants_any(grant: &Value) -> bool
-    ensures { result ≡ spec.grants_any (view grant.now) }
-{
-    match table_of(grant) {
-        Some(table) => match array_at(table, "rights") {
-            Some(rights) => has_any(rights),
-            None => false,
-        },
-        None => false,
-    }
-}
-
-/// Whether a list has a text.
-fn has_any(list: &Array) -> bool
-    ensures { result ≡ spec.has_any (texts_in (array_view list.now)) }
-{
-    for value in list {
-        if value.as_str().is_some() {
-            return true;
-        }
-    }
-    false
-}
-
-/// Whether the person or the group that a grant is for is there.
-fn is_there(persons: &IndexedTexts, table: &Table, to: &str) -> bool
-    ensures { result ≡ spec.is_there persons.now (table_view table.now) to.now }
-{
-    match grantee_of(to) {
-        Some(grantee) => is_known(persons, table, grantee),
-        None => true,
-    }
-}
-
-fn is_known(persons: &IndexedTexts, table: &Table, grantee: Grantee<'_>) -> bool
-    ensures { result
-        ≡ spec.is_known persons.now (table_view table.now) (form.subject_of grantee.entry) }
-{
-    match grantee {
-        Grantee::Person(name) => persons.contains(name),
-        Grantee::Group(name) => is_group(table, name),
-        Grantee::Everyone | Grantee::Role(_) => true,
-    }
-}
-
-fn is_group(table: &Table, name: &str) -> bool
-    ensures { result ≡ spec.is_group (table_view table.now) name.now }
-{
-    match table_at(table, "groups") {
-        Some(groups) => has_key(groups, name),
-        None => false,
+        None => Ok(None),
     }
 }

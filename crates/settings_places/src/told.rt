@@ -63,37 +63,53 @@ impl fmt::Display for FaultPlace<'_> {
     ghost output = { λ p. Some (place_text (seen p)) };
 
     fn fmt<W: fmt::Write>(&self, f: &mut fmt::Formatter<W>) -> fmt::Result {
-        match *self {
-            FaultPlace::Key(found) => write!(f, "{}", KeyNamed { found }),
-            FaultPlace::Calendar(name) => write!(f, "[calendar.{name}]"),
-            FaultPlace::Lifecycle(name) => write!(f, "[lifecycle.{name}]"),
+        match self {
+            FaultPlace::Key(found) => write!(f, "{}", KeyNamed { found: *found }),
+            FaultPlace::Calendar(name) => write!(f, "[calendar.{}]", *name),
+            FaultPlace::Lifecycle(name) => write!(f, "[lifecycle.{}]", *name),
             FaultPlace::Person(name)
             | FaultPlace::PersonTwice(name)
-            | FaultPlace::PersonAndGroup(name) => write!(f, "the person `{name}`"),
-            FaultPlace::Group(name) => write!(f, "the group `{name}`"),
-            FaultPlace::Granted(number, name) => write!(f, "`{name}` in [[grant]] {number}"),
+            | FaultPlace::PersonAndGroup(name) => write!(f, "the person `{}`", name.as_str()),
+            FaultPlace::Group(name) => write!(f, "the group `{}`", name.as_str()),
+            FaultPlace::Granted(number, name) | FaultPlace::Subject(number, name) => write!(
+                f,
+                "`{}` in [[grant]] {}",
+                name.as_str(),
+                *number
+            ),
             FaultPlace::Member(group, name) => write!(
                 f,
-                "`{name}`, a member of the group `{group}`"
+                "`{}`, a member of the group `{}`",
+                name.as_str(),
+                group.as_str()
             ),
-            FaultPlace::Subject(number, to) => write!(f, "`{to}` in [[grant]] {number}"),
             FaultPlace::People => write!(f, "`persons` and [groups]"),
             FaultPlace::Right(number, right) => write!(
                 f,
-                "the right `{right}` in [[grant]] {number}"
+                "the right `{}` in [[grant]] {}",
+                right.as_str(),
+                *number
             ),
             FaultPlace::CalendarOf(level, name) => write!(
                 f,
-                "the calendar `{name}` in [level.{level}]"
+                "the calendar `{}` in [level.{}]",
+                name.as_str(),
+                level.as_str()
             ),
             FaultPlace::StatusOf(level, name) => write!(
                 f,
-                "the status `{name}` in [level.{level}]"
+                "the status `{}` in [level.{}]",
+                name.as_str(),
+                level.as_str()
             ),
-            FaultPlace::PersonOf(_, person) => write!(f, "`{person}`, the person of a token"),
-            FaultPlace::Token(_, person) => write!(f, "a token of `{person}`"),
-            FaultPlace::Limit(level, key) => write!(f, "the limit `{key}` of [level.{level}]"),
-            FaultPlace::Count(key) => write!(f, "the key `{key}` of the text"),
+            FaultPlace::PersonOf(_, person) => write!(
+                f,
+                "`{}`, the person of a token",
+                person.as_str()
+            ),
+            FaultPlace::Token(_, person) => write!(f, "a token of `{}`", person.as_str()),
+            FaultPlace::Limit(level, key) => write!(f, "the limit `{}` of [level.{}]", *key, *level),
+            FaultPlace::Count(key) => write!(f, "the key `{}` of the text", *key),
         }
     }
 }
