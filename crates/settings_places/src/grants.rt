@@ -10,8 +10,8 @@ use rights_core::Grant;
 use settings_parts::people::add_grants;
 use settings_parts::values::{array_at, table_of};
 use std::alloc::{AllocError, Global};
-use toml::value::Array;
 use toml::Table;
+use toml::value::Array;
 
 /// The grant of this index among these, which a text's tables make; the number of its table, from
 /// 1, and that table.

@@ -8,9 +8,9 @@ ghost use Rattle.settings_places.specs.Place as spec;
 
 use crate::grants::grant_at;
 use crate::place::FaultPlace;
+use hours_core::Level;
 use lifecycle_core::Lifecycle;
 use rights_core::{Grant, People};
-use hours_core::Level;
 use settings_core::known::statuses_of;
 use settings_core::names::{
     ignoring_other, other_status, unknown_calendar, unknown_person, unknown_right,
@@ -123,10 +123,7 @@ fn person_place<'t>(people: &People, tokens: &[Token]) -> Result<Option<FaultPla
         ≡ spec.person_place people.now tokens.now) }
 {
     match unknown_person(people, tokens) {
-        Some(found) => Ok(Some(FaultPlace::PersonOf(
-            found.token.clone()?,
-            found.person.clone()?,
-        ))),
+        Some(found) => Ok(Some(FaultPlace::PersonOf(found.token.clone()?, found.person.clone()?))),
         None => Ok(None),
     }
 }

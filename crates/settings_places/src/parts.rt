@@ -7,9 +7,9 @@ ghost use Rattle.settings_parts.specs.Values.{members_of, table_at as members_at
 ghost use Rattle.settings_places.specs.Parts as spec;
 
 use lifecycle_core::Lifecycle;
+use settings_core::SettingsFault;
 use settings_core::calendars::Opening;
 use settings_core::stated::{Stated, value_of};
-use settings_core::SettingsFault;
 use settings_parts::values::table_at;
 use std::alloc::{AllocError, Global};
 use toml::{Table, Value};

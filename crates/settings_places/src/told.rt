@@ -108,7 +108,11 @@ impl fmt::Display for FaultPlace<'_> {
                 person.as_str()
             ),
             FaultPlace::Token(_, person) => write!(f, "a token of `{}`", person.as_str()),
-            FaultPlace::Limit(level, key) => write!(f, "the limit `{}` of [level.{}]", *key, *level),
+            FaultPlace::Limit(level, key) => write!(
+                f,
+                "the limit `{}` of [level.{}]",
+                *key, *level
+            ),
             FaultPlace::Count(key) => write!(f, "the key `{}` of the text", *key),
         }
     }
