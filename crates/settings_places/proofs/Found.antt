@@ -47,10 +47,6 @@ pub and_both : (a b : Bool) → a ≡ true → b ≡ true → (a && b) ≡ true
 and_both true b h k = k
 and_both false b h k = h
 
-pub both_of : (a b : Bool) → (a && b) ≡ true → (a ≡ true) × (b ≡ true)
-both_of true b h = (refl, h)
-both_of false b h = absurd (cc)
-
 pub or_of : (a b : Bool) → cond a true b ≡ (a || b)
 or_of true b = refl
 or_of false b = refl
