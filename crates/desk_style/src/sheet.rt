@@ -294,7 +294,7 @@ meter + meter::-moz-meter-bar { background: repeating-linear-gradient(135deg, va
 
 /* Small screens: each row of a list becomes a few lines */
 
-@media (max-width: 56rem) {
+@media (max-width: 62rem) {
   h1 { font-size: 1.1875rem }
   .list thead { position: absolute; width: 1px; height: 1px; overflow: hidden; clip-path: inset(50%) }
   .list { border: 0; background: none }

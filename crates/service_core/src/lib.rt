@@ -26,9 +26,10 @@
 //! What `refusal_without_facts` refuses costs no statement, a command on a request that isn't there
 //! one, but `link` and `link -d` two, four or five. `queues` reads one row where the grants let the
 //! caller see one queue alone, else all. `show` asks once or twice for each request that one
-//! is linked with, and goes over all links; `linked_rows` asks as often for each number. `ls`, `overdue` and `workload` go over all requests, and
-//! so do `find`, `queue_loads` and `home`, by three statements or four; one more where a search asks
-//! for a requestor. A search in the texts of replies, or by the last entry, asks one more for each
+//! is linked with, and goes over all links; `linked_rows` asks as often for each number. `ls`,
+//! `overdue` and `workload` go over all requests, and so do `find`, `queue_loads` and `home`, by
+//! three statements or four; one more where a search asks for a requestor. A search in the texts of
+//! replies, or by the last entry, asks one more for each
 //! request that meets it but for its words, and any search six for each that it tells.
 #![tactic(auto)]
 

@@ -8,7 +8,7 @@ pub(crate) const TOP: &str = r##"<!DOCTYPE html>
 <meta name="viewport" content="width=device-width, initial-scale=1">
 <meta name="color-scheme" content="light dark">
 <title>{} – Desk</title>
-<link rel="stylesheet" href="/style.css?7a614b96">
+<link rel="stylesheet" href="/style.css?41eb9e22">
 </head>
 <body>
 <a class="skip" href="#main">Skip to the content</a>
@@ -41,7 +41,7 @@ pub(crate) const BARE_TOP: &str = r#"<!DOCTYPE html>
 <meta name="viewport" content="width=device-width, initial-scale=1">
 <meta name="color-scheme" content="light dark">
 <title>{} – Desk</title>
-<link rel="stylesheet" href="/style.css?7a614b96">
+<link rel="stylesheet" href="/style.css?41eb9e22">
 </head>
 <body class="bare">
 <main>
