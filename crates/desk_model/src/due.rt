@@ -40,7 +40,7 @@ pub fn due_of(
 }
 
 /// Whether the status is one of the lifecycle's, and not an inactive one.
-fn is_live(lifecycle: &Lifecycle, status: &Text) -> bool
+pub fn is_live(lifecycle: &Lifecycle, status: &Text) -> bool
     ensures { result ≡ due.is_live_class (class_of lifecycle.now status.now) }
 {
     match lifecycle.class(status.as_str()) {

@@ -41,7 +41,7 @@ pub use answer::{Answer, Dossier, LateLine, Line, Links, Load, Shown};
 pub use call::Call;
 pub use change::Change;
 pub use command::Command;
-pub use due::due_of;
+pub use due::{due_of, is_live};
 pub use facts::{Dependency, Facts, SeenRequest};
 pub use names::in_byte_order;
 pub use refusal::Refusal;
