@@ -60,6 +60,8 @@ use Rattle.report_core.specs.Rows.{QueuesRise, RowsRise, WatchesRise, numbers_ri
 use Rattle.report_core.proofs.LoadLemmas.{fewer_rise}
 use Rattle.desk_finds.specs.Found.{AreOpen, ArePart, Covers, asked_on, dated_on, found_of}
 use Rattle.desk_finds.specs.Found.{is_by_last, last_by}
+use Rattle.desk_finds.specs.Kept.{may_be_open, open_rows}
+use Rattle.desk_finds.proofs.KeptLemmas.{live_somewhere}
 use Rattle.desk_finds.proofs.RoleLemmas.{comments_alike}
 use Rattle.desk_finds.specs.Found.{looks_inside, met_on, placed_by, requestors_at, theirs_on, told_by}
 
@@ -210,22 +212,6 @@ module _ (s : Settings) (at : ℕ) (caller : List ℕ) (search : Search) (desk :
       ∙ left_are desk.requests (shows_alike s caller desk is) (have_dues s desk is)
       (requestors_are is search.requestor)
 
-  -- what was judged by lists that are the desk's
-  pub asked_from : IsDesk desk → (mine others : List Watcher) (queues : List QueueRow)
-      (rows result : List Dated)
-      → mine ≡ own → others ≡ theirs → queues ≡ desk.queues → ArePart search.queue due desk rows
-      → (WatchesRise mine → WatchesRise others → QueuesRise queues
-      → result ≡ filter (is_left s at caller search mine others queues) rows)
-      → result ≡ asked_on s at caller search desk
-  asked_from is mine others queues rows result mine_is others_is queues_is part made =
-      made (subst WatchesRise (sym mine_is) (watches_in_order caller desk is))
-      (subst WatchesRise (sym others_is) (theirs_in_order search.requestor is))
-      (subst QueuesRise (sym queues_is) is.queues)
-      ∙ ap (λ qs. filter (is_left s at caller search mine others qs) rows) queues_is
-      ∙ ap₂ (λ (ws vs : List Watcher). filter (is_left s at caller search ws vs desk.queues) rows)
-      mine_is others_is
-      ∙ left_on is rows part
-
   all_rise : IsDesk desk → RowsRise (dated_rows due desk)
   all_rise is =
       subst RowsRise (sym (map-map (dated_by due) (λ (r : Request). r.row) desk.requests))
@@ -254,6 +240,44 @@ module _ (s : Settings) (at : ℕ) (caller : List ℕ) (search : Search) (desk :
         rows) mine_is queues_is
         ∙ left_on is rows part;
   }
+
+  -- what is left of a search for what is open may be open
+  left_opens : search.status ≡ Open → (dated : Dated) → left dated ≡ true
+      → may_be_open s dated ≡ true
+  left_opens asked dated e =
+      let row = dated.0 in
+      let queue = find (λ q. bytes_eq q.name row.queue) desk.queues in
+      let class = class_in s queue row.status in
+      let rest = has_owner search.owner row.owner
+      && (has_turn search.turn class row.turn
+      && (is_due at search.late dated.1
+      && is_filed search.filed_from search.filed_to row.created)) in
+      let status = has_status search.status class row.status in
+      let whole = and_parts (row_meets at search class dated)
+      (is_requested search.requestor theirs row.id && may_show_by s caller row own) e in
+      let live = (and_parts status rest (and_parts (is_in search.queue row.queue) (status && rest)
+      whole.0).1).0 in
+      live_somewhere s queue row.status
+      (ap (λ a. has_status a class row.status) (sym asked) ∙ live)
+
+  -- and the requests that may be open cover such a search
+  pub covered_by_open : search.status ≡ Open → IsDesk desk → (mine : List Watcher)
+      (queues : List QueueRow) (rows : List Dated) → mine ≡ own → queues ≡ desk.queues
+      → rows ≡ open_rows s desk → Covers s at caller search desk mine queues rows
+  covered_by_open asked is mine queues rows mine_is queues_is rows_are =
+      let all = dated_rows due desk in
+      record {
+        watched = mine_is;
+        queued = queues_is;
+        rise = subst RowsRise (sym rows_are) (fewer_rise (may_be_open s) 0 all (all_rise is));
+        left =
+            ap₂ (λ (ws : List Watcher) (qs : List QueueRow). filter (is_left s at caller search ws
+            theirs qs) rows) mine_is queues_is
+            ∙ ap (filter left) rows_are
+            ∙ filter_within left (may_be_open s) (left_opens asked) all
+            ∙ left_are desk.requests (shows_alike s caller desk is) (have_dues s desk is)
+            (requestors_are is search.requestor);
+      }
 
 -- ---- lists
 
@@ -414,19 +438,22 @@ module _ (s : Settings) (at : ℕ) (caller : List ℕ) (desk : Desk) (is : IsDes
           ∙ ap (map (dated_on s desk)) open_left;
     }
 
--- what was judged of all rows by the search for what is open
+-- what was judged of those that may be open by the search for what is open
 pub open_from : (s : Settings) (at : ℕ) (caller : List ℕ) (desk : Desk) → IsDesk desk
     → (mine : List Watcher) (queues : List QueueRow) (search : Search) (rows result : List Dated)
     → mine ≡ watches_on desk caller → queues ≡ desk.queues → search ≡ open_in None false
-    → rows ≡ dated_rows (due_of_row s desk) desk
+    → rows ≡ open_rows s desk
     → (WatchesRise mine → WatchesRise [] → QueuesRise queues
     → result ≡ filter (is_left s at caller search mine [] queues) rows)
     → result ≡ asked_on s at caller (open_in None false) desk
 open_from s at caller desk is mine queues search rows result mine_is queues_is search_is all made =
-    asked_from s at caller (open_in None false) desk is mine [] queues rows result mine_is refl
-    queues_is all
-    (subst (λ (it : Search). WatchesRise mine → WatchesRise [] → QueuesRise queues
-    → result ≡ filter (is_left s at caller it mine [] queues) rows) search_is made)
+    subst (λ (it : Search). WatchesRise mine → WatchesRise [] → QueuesRise queues
+    → result ≡ filter (is_left s at caller it mine [] queues) rows) search_is made
+    (subst WatchesRise (sym mine_is) (watches_in_order caller desk is))
+    (λ i j d le lt. absurd (omega arith))
+    (subst QueuesRise (sym queues_is) is.queues)
+    ∙ (covered_by_open s at caller (open_in None false) desk refl is mine queues rows mine_is queues_is
+    all).left
 
 -- ---- where the history doesn't count
 

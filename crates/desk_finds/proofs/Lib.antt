@@ -1,3 +1,4 @@
 mod FoundLemmas
+pub mod KeptLemmas
 mod LoadLemmas
 mod RoleLemmas

@@ -11,10 +11,14 @@ ghost use Rattle.store_core.specs.Due.{TellsDue};
 ghost use Rattle.store_core.specs.Seen.{state_of};
 ghost use Rattle.desk_finds.specs.Found.{Covers, found_of, is_by_last, last_by, looks_inside};
 ghost use Rattle.desk_finds.specs.Found.{placed_by, requestors_at, told_by};
+ghost use Rattle.desk_finds.specs.Kept.{KeepsRows, KeptRows};
 
+use crate::kept::{OpenRequests, keep};
 use crate::reading::{Dated, last_told, requestors_of, rows_in, told_of, watches_by};
 use desk_core::{Call, QueueRow, Refusal, Watcher};
-use find_core::{Findings, Found, Order, Place, Placed, Search, is_left, place_if, row_at};
+use find_core::{
+    Findings, Found, Order, Place, Placed, Search, StatusAsked, is_left, place_if, row_at,
+};
 use hours_core::Minute;
 use settings_core::Settings;
 use std::alloc::{AllocError, Global};
@@ -23,10 +27,72 @@ use text_core::Sequence;
 
 /// What a search finds of the requests that the caller may show, by the due moments that the tables
 /// keep: those of a page that come after a place, or from the first on, at most so many, and how
-/// many there are on all pages. `Unavailable` where memory or the store refused. The tables stay as
+/// many there are on all pages. A search for what is open goes over the open requests that are kept,
+/// which are read where none are. `Unavailable` where memory or the store refused. The tables stay as
 /// they are.
-#[tactic(auto, using(store_tables::proofs::Spared::joined, store_tables::proofs::Spared::stands))]
 pub fn find<S: Backend>(
+    alloc: Global,
+    store: &mut Store<S>,
+    kept: &mut Option<OpenRequests>,
+    call: Call<'_>,
+    search: &Search,
+    limit: u32,
+    after: Option<Place>,
+) -> Result<Findings, Refusal>
+    ensures told { KeptRows call.entry.settings.now kept.old (state_of S.Store store.old)
+        → TellsDue call.entry.settings.now (λ desk found. found
+        ≡ findings call.entry.settings.now call.entry.at call.entry.caller.now search.now limit after
+        desk)
+        (state_of S.Store store.old) (state_of S.Store store.new) result }
+    ensures rows { KeepsRows call.entry.settings.now kept.old kept.new
+        (state_of S.Store store.old) (state_of S.Store store.new) }
+    ensures kept { LeavesTables (state_of S.Store store.old) (state_of S.Store store.new) }
+    ensures fault { IfErr result (λ refusal. refusal ≡ Refusal.Unavailable) }
+{
+    match &search.status {
+        StatusAsked::Open => find_open(alloc, store, kept, call, search, limit, after),
+        _ => find_any(alloc, store, call, search, limit, after),
+    }
+}
+
+/// The same of a search for what is open, by the rows that are kept.
+#[tactic(auto, using(store_tables::proofs::Spared::joined, store_tables::proofs::Spared::stands))]
+fn find_open<S: Backend>(
+    alloc: Global,
+    store: &mut Store<S>,
+    kept: &mut Option<OpenRequests>,
+    call: Call<'_>,
+    search: &Search,
+    limit: u32,
+    after: Option<Place>,
+) -> Result<Findings, Refusal>
+    requires { search.now.status ≡ StatusAsked.Open }
+    ensures told { KeptRows call.entry.settings.now kept.old (state_of S.Store store.old)
+        → TellsDue call.entry.settings.now (λ desk found. found
+        ≡ findings call.entry.settings.now call.entry.at call.entry.caller.now search.now limit after
+        desk)
+        (state_of S.Store store.old) (state_of S.Store store.new) result }
+    ensures rows { KeepsRows call.entry.settings.now kept.old kept.new
+        (state_of S.Store store.old) (state_of S.Store store.new) }
+    ensures kept { LeavesTables (state_of S.Store store.old) (state_of S.Store store.new) }
+    ensures fault { IfErr result (λ refusal. refusal ≡ Refusal.Unavailable) }
+{
+    let own = store.watches_of(alloc, call.caller)?;
+    let queues = store.queues(alloc)?;
+    keep(alloc, store, call.settings, kept)?;
+    let (own, queues) = (own.as_slice(), queues.as_slice());
+    match kept {
+        Some(open) => {
+            let rows = open.rows();
+            find_among(alloc, store, call, search, limit, after, own, queues, rows)
+        }
+        None => Err(Refusal::Unavailable),
+    }
+}
+
+/// The same of any search, by rows that are read.
+#[tactic(auto, using(store_tables::proofs::Spared::joined, store_tables::proofs::Spared::stands))]
+fn find_any<S: Backend>(
     alloc: Global,
     store: &mut Store<S>,
     call: Call<'_>,

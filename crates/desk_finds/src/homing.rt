@@ -10,8 +10,10 @@ ghost use Rattle.store_tables.specs.Calls.{LeavesTables};
 ghost use Rattle.store_core.specs.Due.{TellsDue};
 ghost use Rattle.store_core.specs.Seen.{state_of};
 ghost use Rattle.desk_finds.specs.Found.{AreOpen};
+ghost use Rattle.desk_finds.specs.Kept.{KeepsRows, KeptRows};
 
 use crate::finding::find_among;
+use crate::kept::OpenRequests;
 use crate::reading::{Dated, open_rows};
 use desk_core::{Call, QueueRow, Refusal, Watcher};
 use find_core::{Findings, Home, HomeSearches, QueueLoad, queues_seen};
@@ -21,25 +23,30 @@ use text_core::Sequence;
 
 /// What the searches of the first page find, at most so many rows each, and what each queue has that
 /// the caller may see, of the requests that the caller may show. Each search asks for what is open.
-/// `Unavailable` where memory or the store refused. The tables stay as they are.
+/// The open requests are those that are kept, which are read where none are. `Unavailable` where
+/// memory or the store refused. The tables stay as they are.
 #[tactic(auto, using(store_tables::proofs::Spared::joined, store_tables::proofs::Spared::stands))]
 pub fn home<S: Backend>(
     alloc: Global,
     store: &mut Store<S>,
+    kept: &mut Option<OpenRequests>,
     call: Call<'_>,
     searches: &HomeSearches,
     limit: u32,
 ) -> Result<Home, Refusal>
     requires { AskOpen searches.now }
-    ensures told { TellsDue call.entry.settings.now (λ desk told. told
+    ensures told { KeptRows call.entry.settings.now kept.old (state_of S.Store store.old)
+        → TellsDue call.entry.settings.now (λ desk told. told
         ≡ home call.entry.settings.now call.entry.at call.entry.caller.now searches.now limit desk)
         (state_of S.Store store.old) (state_of S.Store store.new) result }
+    ensures rows { KeepsRows call.entry.settings.now kept.old kept.new
+        (state_of S.Store store.old) (state_of S.Store store.new) }
     ensures kept { LeavesTables (state_of S.Store store.old) (state_of S.Store store.new) }
     ensures fault { IfErr result (λ refusal. refusal ≡ Refusal.Unavailable) }
 {
     let own = store.watches_of(alloc, call.caller)?;
     let queues = store.queues(alloc)?;
-    let rows = open_rows(alloc, store, call, own.as_slice(), queues.as_slice())?;
+    let rows = open_rows(alloc, store, kept, call, own.as_slice(), queues.as_slice())?;
     home_among(
         alloc,
         store,

@@ -3,9 +3,11 @@
 
 mod finding;
 mod homing;
+mod kept;
 mod loading;
 mod reading;
 
 pub use finding::find;
 pub use homing::home;
+pub use kept::{OpenRequests, note};
 pub use loading::queue_loads;

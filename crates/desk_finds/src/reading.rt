@@ -1,5 +1,5 @@
 //! The rows that a search goes over, and what is told of one request.
-ghost use Rattle.std.specs.Prelude.{◌≡◌, [], IfErr, IfOk, None, false, filter};
+ghost use Rattle.std.specs.Prelude.{◌≡◌, [], IfErr, IfOk, IsTrue, None, false, filter};
 ghost use Rattle.std.specs.Option.{option_map_or};
 ghost use Rattle.desk_model.specs.Facts.{facts_on_request};
 ghost use Rattle.report_core.specs.Rows.{WatchesRise};
@@ -12,7 +12,9 @@ ghost use Rattle.store_core.specs.Rows.{TellsDated};
 ghost use Rattle.store_core.specs.Seen.{state_of};
 ghost use Rattle.desk_finds.specs.Found.{ArePart, asked_on, last_by, requestors_at, theirs_on};
 ghost use Rattle.desk_finds.specs.Found.{told_by};
+ghost use Rattle.desk_finds.specs.Kept.{KeepsRows, KeptRows};
 
+use crate::kept::{OpenRequests, keep};
 use desk_core::{Call, Command, Entry, Facts, QueueRow, Refusal, RequestRow, Watcher};
 use find_core::{asked_rows, last, open_ones, shows_comments, told};
 use hours_core::Minute;
@@ -25,28 +27,39 @@ use text_core::{Text, Texts};
 pub(crate) type Dated = (RequestRow, Option<Minute>);
 
 /// The rows of the open requests that the caller may show, in the order of their numbers, by the
-/// caller's own watches, and the queues. `Unavailable` where memory or the store refused. The tables
-/// stay as they are.
+/// caller's own watches, and the queues: of those that are kept, which are read where none are.
+/// `Unavailable` where memory or the store refused. The tables stay as they are.
 pub(crate) fn open_rows<S: Backend>(
     alloc: Global,
     store: &mut Store<S>,
+    kept: &mut Option<OpenRequests>,
     call: Call<'_>,
     own: &[Watcher],
     queues: &[QueueRow],
 ) -> Result<Vec<Dated>, Refusal>
-    ensures told { TellsDue call.entry.settings.now (λ desk rows.
+    ensures told { KeptRows call.entry.settings.now kept.old (state_of S.Store store.old)
+        → IsTrue (state_of S.Store store.old).is_open
+        → TellsDue call.entry.settings.now (λ desk rows.
         own.now ≡ filter (is_of_person call.entry.caller.now) (watchers desk)
         → queues.now ≡ desk.queues
         → rows.items ≡ asked_on call.entry.settings.now call.entry.at call.entry.caller.now
         (open_in None false) desk)
         (state_of S.Store store.old) (state_of S.Store store.new) result }
+    ensures rows { KeepsRows call.entry.settings.now kept.old kept.new
+        (state_of S.Store store.old) (state_of S.Store store.new) }
     ensures kept { LeavesTables (state_of S.Store store.old) (state_of S.Store store.new) }
     ensures fault { IfErr result (λ refusal. refusal ≡ Refusal.Unavailable) }
 {
-    let rows = store.dated_requests(alloc)?;
-    let search = open_ones(alloc);
-    let (settings, at, caller) = (call.settings, call.at, call.caller);
-    Ok(asked_rows(settings, at, caller, &search, own, &[], queues, rows))
+    keep(alloc, store, call.settings, kept)?;
+    match kept {
+        Some(open) => {
+            let search = open_ones(alloc);
+            let (settings, at, caller, rows) = (call.settings, call.at, call.caller, open.rows());
+            let asked = asked_rows(alloc, settings, at, caller, &search, own, &[], queues, rows)?;
+            Ok(asked)
+        }
+        None => Err(Refusal::Unavailable),
+    }
 }
 
 /// The watches of a person, if one is given.

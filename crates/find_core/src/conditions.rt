@@ -1,5 +1,6 @@
 //! What a search asks of a row, but for the words.
-ghost use Rattle.std.specs.Prelude.{◌≡◌, true, Some, filter, nat_le, nat_lt};
+ghost use Rattle.std.specs.Prelude.{◌≡◌, ◌++◌, ◌∷◌, [], true, IfOk, OnOk, Some, filter};
+ghost use Rattle.std.specs.Prelude.{if◌then◌else◌, nat_le, nat_lt};
 ghost use Rattle.std.specs.Option.{option_map, option_map_or};
 ghost use Rattle.desk_model.specs.Due.{is_live_class};
 ghost use Rattle.desk_model.specs.Lifecycles.{is_inactive_class};
@@ -15,12 +16,15 @@ use hours_core::Minute;
 use lifecycle_core::Class;
 use report_core::{is_shown, queue_named, watches_of};
 use settings_core::Settings;
+use std::alloc::{AllocError, Global};
 use text_core::Text;
 
 /// Those of the rows that the person may show and that meet the search but for its words, in their
 /// order: by the person's own watches, and those of the requestor who is asked for, each in the order
-/// of their requests. The queues stand in the order of their names.
+/// of their requests. The queues stand in the order of their names. `AllocError` where memory is
+/// refused.
 pub fn asked_rows(
+    alloc: Global,
     settings: &Settings,
     at: u32,
     person: &str,
@@ -28,14 +32,34 @@ pub fn asked_rows(
     own: &[Watcher],
     theirs: &[Watcher],
     queues: &[QueueRow],
-    mut rows: Vec<(RequestRow, Option<Minute>)>,
-) -> Vec<(RequestRow, Option<Minute>)>
+    rows: &[(RequestRow, Option<Minute>)],
+) -> Result<Vec<(RequestRow, Option<Minute>)>, AllocError>
     ensures { WatchesRise own.now → WatchesRise theirs.now → QueuesRise queues.now
-        → result.items ≡ filter (judged.is_left settings.now at person.now search.now own.now
-        theirs.now queues.now) rows.items }
+        → IfOk result (λ asked. asked.items ≡ filter (judged.is_left settings.now at person.now
+        search.now own.now theirs.now queues.now) rows.now) }
 {
-    rows.retain(|dated| is_left(settings, at, person, search, own, theirs, queues, dated));
-    rows
+    let mut asked = Vec::new(alloc);
+    for dated in rows {
+        let left = is_left(settings, at, person, search, own, theirs, queues, dated);
+        put_if(left, dated, &mut asked)?;
+    }
+    Ok(asked)
+}
+
+/// Puts a copy of a row to the others, if it is left.
+fn put_if(
+    left: bool,
+    dated: &(RequestRow, Option<Minute>),
+    rows: &mut Vec<(RequestRow, Option<Minute>)>,
+) -> Result<(), AllocError>
+    ensures { OnOk result (rows.new.items
+        ≡ rows.old.items ++ if left then dated.now ∷ [] else []) }
+{
+    if left {
+        let (row, due) = dated;
+        rows.push((row.clone()?, *due))?;
+    }
+    Ok(())
 }
 
 /// Whether the person may show a row, and it meets the search but for its words: by lists that stand

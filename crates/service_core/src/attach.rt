@@ -51,7 +51,11 @@ impl<S: Backend> Desk<S> {
             IsGivenBack (state_of S.Store store) (state_of S.Store back.1)) }
     {
         match renew_known(alloc, &mut store, &settings) {
-            Ok(Renewal::Done) => Ok(Desk { store, settings }),
+            Ok(Renewal::Done) => Ok(Desk {
+                store,
+                settings,
+                kept: None,
+            }),
             Ok(Renewal::UnknownName) => {
                 drop(settings);
                 Err((AttachFault::UnknownName, store))

@@ -3,21 +3,30 @@ ghost use Rattle.std.specs.Prelude.{◌≡◌, IfErr, IfOk};
 ghost use Rattle.sqlite.specs.State.{HasCleanDisk};
 ghost use Rattle.store_tables.specs.Calls.{LeavesTables};
 ghost use Rattle.store_core.specs.Limits.{OnlyLimits, limited};
-ghost use Rattle.store_core.specs.Seen.{connection_of};
-ghost use Rattle.service_core.specs.Seen.{settings_of, tables_of};
+ghost use Rattle.store_core.specs.Seen.{connection_of, state_of};
+ghost use Rattle.desk_finds.specs.Kept.{KeptRows, KeptRows-prop};
 
 use desk_core::Refusal;
+use desk_finds::OpenRequests;
 use settings_core::Settings;
 use store_core::{Backend, Store};
 
 /// A desk: its tables, and the settings by which commands are decided.
+///
+/// Beside the tables it keeps the rows of the requests that may be open, from the first search for what
+/// is open on: a later one reads no other. Where memory is refused for them none are kept, and the next
+/// such search reads all.
 #[derive(Drop)]
 pub struct Desk<S: Backend> {
     pub(crate) store: Store<S>,
     pub(crate) settings: Settings,
+    pub(crate) kept: Option<OpenRequests>,
+    ghost rows: { KeptRows settings kept (state_of S.Store store) } by { KeptRows-prop settings kept (state_of S.Store store) },
 }
 
 impl<S: Backend> Desk<S> {
+    ghost use Rattle.service_core.specs.Seen.{settings_of, tables_of};
+
     /// The settings that were attached. Takes no memory.
     pub fn settings(&self) -> &Settings
         ensures { result.now ≡ settings_of S.Store self.now }
@@ -31,6 +40,7 @@ impl<S: Backend> Desk<S> {
         ensures store { connection_of S.Store result.0 ≡ connection_of S.Store self.store }
         ensures settings { result.1 ≡ settings_of S.Store self }
     {
+        drop(self.kept);
         (self.store, self.settings)
     }
 

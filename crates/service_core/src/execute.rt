@@ -7,6 +7,7 @@ ghost use Rattle.desk_model.specs.Plan.{answer_of_change};
 ghost use Rattle.desk_model.specs.Step.{refusal_beforehand};
 ghost use Rattle.store_tables.specs.Calls.{LeavesTables};
 ghost use Rattle.store_core.specs.Seen.{state_of};
+ghost use Rattle.desk_finds.specs.Kept.{KeepsRows};
 ghost use Rattle.service_core.specs.Asked.{asked};
 ghost use Rattle.service_core.specs.Decided.{StepsSeeing, Writes};
 ghost use Rattle.service_core.specs.Leaves.{KeepsStore, LeavesDesk, StepsSafely};
@@ -18,6 +19,8 @@ use crate::reading;
 use desk_core::{
     Answer, Call, Change, Command, Facts, Refusal, decide_on_facts, refusal_without_facts,
 };
+use desk_finds::{OpenRequests, note};
+use settings_core::Settings;
 use std::alloc::Global;
 use store_core::{Backend, Store};
 
@@ -48,6 +51,7 @@ impl<S: Backend> Desk<S> {
             None => step(
                 alloc,
                 &mut self.store,
+                &mut self.kept,
                 Call {
                     settings,
                     at,
@@ -63,17 +67,20 @@ impl<S: Backend> Desk<S> {
 fn step<S: Backend>(
     alloc: Global,
     store: &mut Store<S>,
+    kept: &mut Option<OpenRequests>,
     call: Call<'_>,
     command: &Command,
 ) -> Result<Answer, Refusal>
     requires { refusal_beforehand call.settings.now call.at call.caller.now
         command.now ≡ None }
-    ensures { StepsSafely (StepOverTables call.entry.settings.now (asked call.entry command.now))
+    ensures safely { StepsSafely (StepOverTables call.entry.settings.now (asked call.entry command.now))
         (state_of S.Store store.old) (state_of S.Store store.new) result }
+    ensures rows { KeepsRows call.entry.settings.now kept.old kept.new
+        (state_of S.Store store.old) (state_of S.Store store.new) }
 {
     match store.facts_for(alloc, command) {
         Ok(facts) => {
-            let outcome = step_on_facts(alloc, store, call, command, &facts);
+            let outcome = step_on_facts(alloc, store, kept, call, command, &facts);
             drop(facts);
             outcome
         }
@@ -85,15 +92,18 @@ fn step<S: Backend>(
 fn step_on_facts<S: Backend>(
     alloc: Global,
     store: &mut Store<S>,
+    kept: &mut Option<OpenRequests>,
     call: Call<'_>,
     command: &Command,
     facts: &Facts,
 ) -> Result<Answer, Refusal>
     requires { refusal_beforehand call.settings.now call.at call.caller.now
         command.now ≡ None }
-    ensures { StepsSafely
+    ensures safely { StepsSafely
         (StepsSeeing facts.now call.entry.settings.now (asked call.entry command.now))
         (state_of S.Store store.old) (state_of S.Store store.new) result }
+    ensures rows { KeepsRows call.entry.settings.now kept.old kept.new
+        (state_of S.Store store.old) (state_of S.Store store.new) }
 {
     match decide_on_facts(alloc, call.settings, call.at, call.caller, facts, command) {
         Ok(change) => {
@@ -101,25 +111,34 @@ fn step_on_facts<S: Backend>(
                 drop(change);
                 reading::read(alloc, store, call, command, facts)
             } else {
-                write(store, change)
+                write(store, kept, call.settings, change)
             }
         }
         Err(refusal) => Err(refusal),
     }
 }
 
-/// Writes a change, and tells which request it filed, or that it is done.
-pub(crate) fn write<S: Backend>(store: &mut Store<S>, change: Change) -> Result<Answer, Refusal>
+/// Writes a change, and tells which request it filed, or that it is done. What is kept of the open
+/// requests follows it.
+pub(crate) fn write<S: Backend>(
+    store: &mut Store<S>,
+    kept: &mut Option<OpenRequests>,
+    settings: &Settings,
+    change: Change,
+) -> Result<Answer, Refusal>
     ensures done { IfOk result (λ answer. (answer ≡ answer_of_change change)
         × Writes change (state_of S.Store store.old) (state_of S.Store store.new)) }
     ensures undone { OnErr result
         (LeavesTables (state_of S.Store store.old) (state_of S.Store store.new)) }
     ensures fault { IfErr result (λ refusal. refusal ≡ Refusal.Unavailable) }
     ensures keeps { KeepsStore (state_of S.Store store.old) (state_of S.Store store.new) }
+    ensures rows { KeepsRows settings.now kept.old kept.new
+        (state_of S.Store store.old) (state_of S.Store store.new) }
 {
     match store.apply(&change) {
         Ok(()) => {
             let answer = change.answer();
+            note(settings, &change, kept);
             drop(change);
             Ok(answer)
         }

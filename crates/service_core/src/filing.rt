@@ -5,6 +5,7 @@ ghost use Rattle.desk_model.specs.Plan.{answer_of_change};
 ghost use Rattle.desk_model.specs.Step.{refusal_beforehand};
 ghost use Rattle.store_tables.specs.Calls.{LeavesTables};
 ghost use Rattle.store_core.specs.Seen.{state_of};
+ghost use Rattle.desk_finds.specs.Kept.{KeepsRows};
 ghost use Rattle.service_core.specs.Asked.{asked};
 ghost use Rattle.service_core.specs.Decided.{Writes};
 ghost use Rattle.service_core.specs.Filing as filing;
@@ -19,6 +20,7 @@ use desk_core::{
     Answer, Call, Change, Command, Entry, EntryKind, Facts, Refusal, RequestRow, decide_on_facts,
     refusal_without_facts,
 };
+use desk_finds::OpenRequests;
 use settings_core::Settings;
 use std::alloc::{AllocError, Global};
 use store_core::{Backend, Store};
@@ -78,6 +80,7 @@ impl<S: Backend> Desk<S> {
             None => step(
                 alloc,
                 &mut self.store,
+                &mut self.kept,
                 Call {
                     settings,
                     at,
@@ -104,6 +107,7 @@ fn text_taken<'t>(command: &Command, text: &'t Option<Text>) -> Option<&'t Text>
 fn step<S: Backend>(
     alloc: Global,
     store: &mut Store<S>,
+    kept: &mut Option<OpenRequests>,
     call: Call<'_>,
     command: &Command,
     text: &Text,
@@ -111,13 +115,15 @@ fn step<S: Backend>(
     requires files { filing.text_taken command.now (Some text.now) ≡ Some text.now }
     requires free { refusal_beforehand call.settings.now call.at call.caller.now
         command.now ≡ None }
-    ensures { StepsSafely
+    ensures safely { StepsSafely
         (FilesOn call.entry.settings.now (asked call.entry command.now) (Some text.now))
         (state_of S.Store store.old) (state_of S.Store store.new) result }
+    ensures rows { KeepsRows call.entry.settings.now kept.old kept.new
+        (state_of S.Store store.old) (state_of S.Store store.new) }
 {
     match store.facts_for(alloc, command) {
         Ok(facts) => {
-            let outcome = step_on_facts(alloc, store, call, command, text, &facts);
+            let outcome = step_on_facts(alloc, store, kept, call, command, text, &facts);
             drop(facts);
             outcome
         }
@@ -129,6 +135,7 @@ fn step<S: Backend>(
 fn step_on_facts<S: Backend>(
     alloc: Global,
     store: &mut Store<S>,
+    kept: &mut Option<OpenRequests>,
     call: Call<'_>,
     command: &Command,
     text: &Text,
@@ -137,12 +144,14 @@ fn step_on_facts<S: Backend>(
     requires files { filing.text_taken command.now (Some text.now) ≡ Some text.now }
     requires free { refusal_beforehand call.settings.now call.at call.caller.now
         command.now ≡ None }
-    ensures { StepsSafely (FilesSeeing facts.now call.entry.settings.now
+    ensures safely { StepsSafely (FilesSeeing facts.now call.entry.settings.now
         (asked call.entry command.now) text.now)
         (state_of S.Store store.old) (state_of S.Store store.new) result }
+    ensures rows { KeepsRows call.entry.settings.now kept.old kept.new
+        (state_of S.Store store.old) (state_of S.Store store.new) }
 {
     match decide_on_facts(alloc, call.settings, call.at, call.caller, facts, command) {
-        Ok(change) => write_with_text(alloc, store, call, change, text),
+        Ok(change) => write_with_text(alloc, store, kept, call, change, text),
         Err(refusal) => Err(refusal),
     }
 }
@@ -151,6 +160,7 @@ fn step_on_facts<S: Backend>(
 fn write_with_text<S: Backend>(
     alloc: Global,
     store: &mut Store<S>,
+    kept: &mut Option<OpenRequests>,
     call: Call<'_>,
     change: Change,
     text: &Text,
@@ -164,6 +174,8 @@ fn write_with_text<S: Backend>(
     ensures fault { IfErr result (λ refusal. refusal ≢ Refusal.Unavailable
         → filing.refusal_of_text call.entry.settings.now text.now ≡ Some refusal) }
     ensures keeps { KeepsStore (state_of S.Store store.old) (state_of S.Store store.new) }
+    ensures rows { KeepsRows call.entry.settings.now kept.old kept.new
+        (state_of S.Store store.old) (state_of S.Store store.new) }
 {
     match refusal_of_text(call.settings, text) {
         Some(refusal) => {
@@ -171,7 +183,7 @@ fn write_with_text<S: Backend>(
             Err(refusal)
         }
         None => match with_text(alloc, call.caller, change, text) {
-            Ok(change) => write(store, change),
+            Ok(change) => write(store, kept, call.settings, change),
             Err(_) => Err(Refusal::Unavailable),
         },
     }

@@ -2,11 +2,13 @@
 ghost use Rattle.std.specs.Prelude.{◌≡◌, true, IfErr};
 ghost use Rattle.store_tables.specs.Calls.{LeavesTables};
 ghost use Rattle.store_core.specs.Seen.{state_of};
+ghost use Rattle.desk_finds.specs.Kept.{KeepsRows, KeptRows};
 ghost use Rattle.service_core.specs.Finding.{FindsOn};
 ghost use Rattle.service_core.specs.Seen.{settings_of, tables_of};
 
 use crate::desk::Desk;
 use desk_core::{Call, Command, Refusal, refusal_without_facts};
+use desk_finds::OpenRequests;
 use find_core::{Findings, Place, Search};
 use std::alloc::Global;
 use store_core::{Backend, Store};
@@ -40,7 +42,16 @@ impl<S: Backend> Desk<S> {
             at,
             caller,
         };
-        look(alloc, &mut self.store, call, &overdue, search, limit, after)
+        look(
+            alloc,
+            &mut self.store,
+            &mut self.kept,
+            call,
+            &overdue,
+            search,
+            limit,
+            after,
+        )
     }
 }
 
@@ -49,6 +60,7 @@ impl<S: Backend> Desk<S> {
 fn look<S: Backend>(
     alloc: Global,
     store: &mut Store<S>,
+    kept: &mut Option<OpenRequests>,
     call: Call<'_>,
     overdue: &Command,
     search: &Search,
@@ -56,12 +68,15 @@ fn look<S: Backend>(
     after: Option<Place>,
 ) -> Result<Findings, Refusal>
     requires { overdue.now ≡ Command.Overdue }
-    ensures found { FindsOn call.entry.settings.now call.entry.at call.entry.caller.now search.now
+    ensures found { KeptRows call.entry.settings.now kept.old (state_of S.Store store.old)
+        → FindsOn call.entry.settings.now call.entry.at call.entry.caller.now search.now
         limit after result (state_of S.Store store.old) (state_of S.Store store.new) }
+    ensures rows { KeepsRows call.entry.settings.now kept.old kept.new
+        (state_of S.Store store.old) (state_of S.Store store.new) }
     ensures kept { LeavesTables (state_of S.Store store.old) (state_of S.Store store.new) }
 {
     match refusal_without_facts(call.settings, call.at, call.caller, overdue) {
         Some(refusal) => Err(refusal),
-        None => desk_finds::find(alloc, store, call, search, limit, after),
+        None => desk_finds::find(alloc, store, kept, call, search, limit, after),
     }
 }

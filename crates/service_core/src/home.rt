@@ -4,11 +4,13 @@ ghost use Rattle.find_core.specs.Home.{AskOpen, home};
 ghost use Rattle.store_tables.specs.Calls.{LeavesTables};
 ghost use Rattle.store_core.specs.Due.{TellsDue};
 ghost use Rattle.store_core.specs.Seen.{state_of};
+ghost use Rattle.desk_finds.specs.Kept.{KeepsRows, KeptRows};
 ghost use Rattle.service_core.specs.Homes.{HomeOn};
 ghost use Rattle.service_core.specs.Seen.{settings_of, tables_of};
 
 use crate::desk::Desk;
 use desk_core::{Call, Command, Refusal, refusal_without_facts};
+use desk_finds::OpenRequests;
 use find_core::{Home, HomeSearches, Search, StatusAsked};
 use std::alloc::Global;
 use store_core::{Backend, Store};
@@ -40,7 +42,15 @@ impl<S: Backend> Desk<S> {
             at,
             caller,
         };
-        look(alloc, &mut self.store, call, &overdue, searches, limit)
+        look(
+            alloc,
+            &mut self.store,
+            &mut self.kept,
+            call,
+            &overdue,
+            searches,
+            limit,
+        )
     }
 }
 
@@ -49,19 +59,23 @@ impl<S: Backend> Desk<S> {
 fn look<S: Backend>(
     alloc: Global,
     store: &mut Store<S>,
+    kept: &mut Option<OpenRequests>,
     call: Call<'_>,
     overdue: &Command,
     searches: &HomeSearches,
     limit: u32,
 ) -> Result<Home, Refusal>
     requires { overdue.now ≡ Command.Overdue }
-    ensures told { HomeOn call.entry.settings.now call.entry.at call.entry.caller.now searches.now
+    ensures told { KeptRows call.entry.settings.now kept.old (state_of S.Store store.old)
+        → HomeOn call.entry.settings.now call.entry.at call.entry.caller.now searches.now
         limit result (state_of S.Store store.old) (state_of S.Store store.new) }
+    ensures rows { KeepsRows call.entry.settings.now kept.old kept.new
+        (state_of S.Store store.old) (state_of S.Store store.new) }
     ensures kept { LeavesTables (state_of S.Store store.old) (state_of S.Store store.new) }
 {
     match refusal_without_facts(call.settings, call.at, call.caller, overdue) {
         Some(refusal) => Err(refusal),
-        None => read(alloc, store, call, searches, limit),
+        None => read(alloc, store, kept, call, searches, limit),
     }
 }
 
@@ -70,18 +84,22 @@ fn look<S: Backend>(
 fn read<S: Backend>(
     alloc: Global,
     store: &mut Store<S>,
+    kept: &mut Option<OpenRequests>,
     call: Call<'_>,
     searches: &HomeSearches,
     limit: u32,
 ) -> Result<Home, Refusal>
-    ensures told { TellsDue call.entry.settings.now (λ desk told. told
+    ensures told { KeptRows call.entry.settings.now kept.old (state_of S.Store store.old)
+        → TellsDue call.entry.settings.now (λ desk told. told
         ≡ home call.entry.settings.now call.entry.at call.entry.caller.now searches.now limit desk)
         (state_of S.Store store.old) (state_of S.Store store.new) result }
+    ensures rows { KeepsRows call.entry.settings.now kept.old kept.new
+        (state_of S.Store store.old) (state_of S.Store store.new) }
     ensures kept { LeavesTables (state_of S.Store store.old) (state_of S.Store store.new) }
     ensures fault { IfErr result (λ refusal. refusal ≡ Refusal.Unavailable) }
 {
     if ask_open(searches) {
-        desk_finds::home(alloc, store, call, searches, limit)
+        desk_finds::home(alloc, store, kept, call, searches, limit)
     } else {
         Err(Refusal::Unavailable)
     }

@@ -27,10 +27,11 @@
 //! one, but `link` and `link -d` two, four or five. `queues` reads one row where the grants let the
 //! caller see one queue alone, else all. `show` asks once or twice for each request that one
 //! is linked with, and goes over all links; `linked_rows` asks as often for each number. `ls`,
-//! `overdue` and `workload` go over all requests, and so do `find`, `queue_loads` and `home`, by
-//! three statements or four; one more where a search asks for a requestor. A search in the texts of
-//! replies, or by the last entry, asks one more for each
-//! request that meets it but for its words, and any search six for each that it tells.
+//! `overdue` and `workload` go over all requests, and so does a search that asks for closed ones too.
+//! `home`, `queue_loads` and a search for what is open go over the requests that may be open, which the
+//! desk keeps beside its tables from the first of them on, by two statements, and one more where a
+//! search asks for a requestor. A search in the texts of replies, or by the last entry, asks one more
+//! for each request that meets it but for its words, and any search six for each that it tells.
 #![tactic(auto)]
 
 pub mod alike;

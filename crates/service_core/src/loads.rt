@@ -2,11 +2,13 @@
 ghost use Rattle.std.specs.Prelude.{◌≡◌, true, IfErr};
 ghost use Rattle.store_tables.specs.Calls.{LeavesTables};
 ghost use Rattle.store_core.specs.Seen.{state_of};
+ghost use Rattle.desk_finds.specs.Kept.{KeepsRows, KeptRows};
 ghost use Rattle.service_core.specs.Loading.{LoadsOn};
 ghost use Rattle.service_core.specs.Seen.{settings_of, tables_of};
 
 use crate::desk::Desk;
 use desk_core::{Call, Command, Refusal, refusal_without_facts};
+use desk_finds::OpenRequests;
 use find_core::QueueLoad;
 use std::alloc::Global;
 use store_core::{Backend, Store};
@@ -38,7 +40,7 @@ impl<S: Backend> Desk<S> {
             at,
             caller,
         };
-        look(alloc, &mut self.store, call, &overdue)
+        look(alloc, &mut self.store, &mut self.kept, call, &overdue)
     }
 }
 
@@ -47,16 +49,20 @@ impl<S: Backend> Desk<S> {
 fn look<S: Backend>(
     alloc: Global,
     store: &mut Store<S>,
+    kept: &mut Option<OpenRequests>,
     call: Call<'_>,
     overdue: &Command,
 ) -> Result<Sequence<QueueLoad>, Refusal>
     requires { overdue.now ≡ Command.Overdue }
-    ensures told { LoadsOn call.entry.settings.now call.entry.at call.entry.caller.now result
+    ensures told { KeptRows call.entry.settings.now kept.old (state_of S.Store store.old)
+        → LoadsOn call.entry.settings.now call.entry.at call.entry.caller.now result
+        (state_of S.Store store.old) (state_of S.Store store.new) }
+    ensures rows { KeepsRows call.entry.settings.now kept.old kept.new
         (state_of S.Store store.old) (state_of S.Store store.new) }
     ensures kept { LeavesTables (state_of S.Store store.old) (state_of S.Store store.new) }
 {
     match refusal_without_facts(call.settings, call.at, call.caller, overdue) {
         Some(refusal) => Err(refusal),
-        None => desk_finds::queue_loads(alloc, store, call),
+        None => desk_finds::queue_loads(alloc, store, kept, call),
     }
 }

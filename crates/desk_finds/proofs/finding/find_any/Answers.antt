@@ -6,7 +6,7 @@ use Rattle.store_tables.proofs.Spared.{stands}
 use Rattle.store_core.specs.Due.{due_of_row}
 use Rattle.desk_finds.specs.Found.{ArePart}
 use Rattle.desk_finds.proofs.FoundLemmas.{covered}
-use Rattle.desk_finds.proofs.finding.find.Goals as goal
+use Rattle.desk_finds.proofs.finding.find_any.Goals as goal
 
 pub returns-clause-told : goal.returns-clause-told
 returns-clause-told g c desk is stand clean =
