@@ -1,6 +1,6 @@
--- Examples of which requests tables show, worked out by hand.
-use Rattle.std.proofs.Common.{◌∷◌, [], List, None, Option, Some, ap, arith, codes, length, ℕ, pos}
-use Rattle.std.proofs.Common.{refl}
+-- Examples of which requests tables show, and of what is told of a history, worked out by hand.
+use Rattle.std.proofs.Common.{◌≡◌, ◌∷◌, [], List, None, Option, Some, ap, arith, codes, false, inl}
+use Rattle.std.proofs.Common.{inr, length, ℕ, pos, refl, true}
 use Rattle.std.proofs.lemmas.List.{length-map}
 use Rattle.std.specs.Prelude.{if◌then◌else◌, ◌==◌}
 use Rattle.std.proofs.lemmas.List.Sorted.{IsPermutation-middle, IsPermutation-refl}
@@ -9,10 +9,15 @@ use Rattle.sqlite.specs.Effect.{Database}
 use Rattle.sqlite.specs.Order.{Row}
 use Rattle.sqlite.specs.Schema.{Schema}
 use Rattle.sqlite.specs.declared.types.Value.TheVariants.{Int, Null, Text as Words}
+use Rattle.desk_model.specs.declared.rows.Entry.{Entry}
+use Rattle.desk_model.specs.declared.rows.EntryKind.{EntryKind}
+use Rattle.desk_model.specs.declared.rows.EntryKind.TheVariants.{Comment, Create, Reply}
 use Rattle.desk_model.specs.declared.rows.Turn.TheVariants as turn
 use Rattle.store_tables.specs.Contents.{desk_schema}
-use Rattle.store_tables.specs.Contents.Request.{Dated, dated_shown, request}
+use Rattle.store_tables.specs.Contents.Entry.{is_told_of, moment_of, place_of}
+use Rattle.store_tables.specs.Contents.Request.{Dated, comes_after, dated_shown, request}
 use Rattle.store_tables.specs.Dated.{ShowsDated}
+use Rattle.store_tables.specs.Picked.{IsLast}
 use Rattle.store_tables.specs.Strict.{no_schema}
 
 -- a database of that schema, with these rows in the table of the requests and one row elsewhere
@@ -87,3 +92,67 @@ none_is_left_out shown =
 other_tables : ShowsDated [] (requests_in no_schema (own ∷ []))
 other_tables =
     record { rows = λ there. absurd (omega (arith, ap (λ (s : Schema). length s.tables) there)) }
+
+-- ---- requests after a number
+
+not_the_one_of_that_number : comes_after 3 (dated 3 None) ≡ false
+not_the_one_of_that_number = refl
+
+the_next_one : comes_after 3 (dated 4 None) ≡ true
+the_next_one = refl
+
+-- ---- the last entry that is told
+
+-- an entry of the request 1, by its number, its moment and its kind
+abbrev made : ℕ → ℕ → EntryKind → Entry
+made number moment kind = record {
+  id = 1;
+  number = number;
+  moment = moment;
+  kind = kind;
+  actor = codes "ann";
+  head = [];
+  body = codes "Toner is low";
+}
+
+comment_where_comments_count : is_told_of true 1 (made 2 20 Comment) ≡ true
+comment_where_comments_count = refl
+
+comment_where_they_do_not : is_told_of false 1 (made 2 20 Comment) ≡ false
+comment_where_they_do_not = refl
+
+reply_where_they_do_not : is_told_of false 1 (made 2 20 Reply) ≡ true
+reply_where_they_do_not = refl
+
+entry_of_another_request : is_told_of true 2 (made 2 20 Reply) ≡ false
+entry_of_another_request = refl
+
+-- the last is that with the greatest number, whenever it was made and wherever it stands
+abbrev made_two : List Entry
+made_two = made 2 20 Reply ∷ made 1 30 Create ∷ []
+
+last_by_its_number : IsLast place_of moment_of made_two (Some 20)
+last_by_its_number = inr (
+  made 2 20 Reply,
+  inl refl,
+  refl,
+  λ entry has. elim has [
+    | inl same ↦ omega (arith, ap place_of same)
+    | inr (inl same) ↦ omega (arith, ap place_of same)
+    | inr (inr none) ↦ absurd none
+  ],
+)
+
+not_by_its_moment : ¬ IsLast place_of moment_of made_two (Some 30)
+not_by_its_moment (inl none) = absurd (cc)
+not_by_its_moment (inr it) =
+    let greatest = it.3 (made 2 20 Reply) (inl refl) in
+    let moment : 30 ≡ moment_of it.0 = cc in
+    elim it.1 [
+      | inl same ↦ absurd (omega (arith, moment, ap moment_of same))
+      | inr (inl same) ↦ absurd (omega (arith, greatest, ap place_of same))
+      | inr (inr none) ↦ absurd none
+    ]
+
+last_of_none : IsLast place_of moment_of [] None
+last_of_none = inl (refl, refl)

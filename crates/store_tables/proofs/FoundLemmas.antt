@@ -1,13 +1,13 @@
 -- One number that is read: the last one, or 0 where there is none; and how many rows there are.
-use Rattle.std.proofs.Common.{◌≡◌, Bool, true, List, None, Some, refl, subst, arith, codes, filter}
+use Rattle.std.proofs.Common.{◌≡◌, Bool, true, List, None, Some, refl, subst, arith, filter}
 use Rattle.std.proofs.Common.{◌∙◌, [], ◌∷◌, inl, inr, ap, sym, ◌≤◌, Ok, map, ◌<◌, min, ◌^◌, Ordering}
 use Rattle.std.proofs.Common.{ℕ, Option, Result, length, option_to_list, nat_cmp, filter, unwrap_or}
 use Rattle.std.specs.List.{AllZip}
 use Rattle.sqlite.specs.Query.{output, output_cmp, IsAnswer, page, Output}
-use Rattle.sqlite.specs.Order.{Row, column}
-use Rattle.sqlite.specs.State.{State, HasCleanDisk, Shown}
-use Rattle.sqlite.specs.Term.{Term, col, Env}
-use Rattle.store_tables.specs.Picked.{AreFirst, IsGreatest, ShowsGreatest, passes, shows}
+use Rattle.sqlite.specs.Order.{Row}
+use Rattle.sqlite.specs.State.{State}
+use Rattle.sqlite.specs.Term.{Term, Env}
+use Rattle.store_tables.specs.Picked.{AreFirst, IsGreatest, IsLast, ShowsLast, passes, shows}
 use Rattle.store_tables.specs.Values.{IsNumberRow, ReadsCount, count_value}
 use Rattle.store_tables.specs.declared.fault.StoreFault.{StoreFault}
 use Rattle.store_tables.specs.Contents.{desk_schema}
@@ -16,62 +16,96 @@ use Rattle.store_tables.specs.Readings.{Reads}
 use Rattle.store_tables.proofs.ReadingLemmas.{every, first_rows, if_ok, last_rows}
 use Rattle.store_tables.proofs.RowLemmas.{Asked, Found, TableOf, fails_of}
 use Rattle.store_tables.proofs.StandLemmas.{shown_tables, tables_shown}
-use Rattle.store_tables.proofs.ReadLemmas.{first_read, lists_values, shows_greatest}
+use Rattle.store_tables.proofs.ReadLemmas.{first_read, lists_values, shows_last}
+use Rattle.store_tables.proofs.BackLemmas.{count_back}
 use Rattle.store_tables.proofs.Meaning.{Selects}
 use Rattle.store_tables.proofs.PickedLemmas.{bare, first_by, last_by, matched}
-use Rattle.sqlite_tied.proofs.RuleLemmas.{and_true}
 use Rattle.std.proofs.lemmas.List.{length-map}
 use Rattle.std.proofs.lemmas.List.Sorted.{length_permutation}
 use Rattle.sqlite.specs.declared.types.Value.TheVariants.{Null}
 use Rattle.sqlite.specs.Tree.{Trees}
-use Rattle.sqlite.specs.Listing.{understood}
 use Rattle.sqlite.specs.Program.{overlay}
 use Rattle.sqlite.proofs.Callers.{one_permutation, reads_as}
 use Rattle.sqlite_sql.specs.Aggregate.{count}
 use Rattle.sqlite_sql.specs.Group.{IsSummary, value_over}
-use Rattle.sqlite_tied.specs.Compute.{everything}
 use Rattle.store_tables.specs.Kept.{Holds}
 
--- the number that the last row shows is the greatest
-greatest_read : {X : Type 0} (key : X → ℕ) (xs : List X) (rows : List Row) (last : Option ℕ)
-    → ShowsGreatest key xs rows → AllZip ReadsCount rows (option_to_list last)
-    → IsGreatest key xs (unwrap_or last 0)
-greatest_read key xs [] None (inl h) read = inl (h.1, refl)
-greatest_read key xs (row ∷ rows) (Some n) (inr h) read =
-    let same : row ≡ count_value (key h.0) ∷ [] = let e = h.1 in cc in
-    let is : key h.0 ≡ n = let e = sym (ap (λ r. column r 0) same) ∙ read.0.number in cc in
-    inr (h.0, h.2, is, λ y has. subst (λ m. key y ≤ m) is (h.3 y has))
-greatest_read key xs [] None (inr h) read = absurd (let e = h.1 in cc)
-greatest_read key xs (row ∷ rows) (Some n) (inl h) read = absurd (let e = h.0 in cc)
-greatest_read key xs rows last show read = absurd (grind arith)
+-- what was read of the one row is the part of the value that it shows
+last_read : {X Y : Type 0} (key : X → ℕ) (part : X → Y) (view : X → Row) (Reads : Row → Y → Type 0)
+    → ((a : X) (b : Y) → Reads (view a) b → b ≡ part a) → (xs : List X) (rows : List Row)
+    (last : Option Y) → ShowsLast key view xs rows → AllZip Reads rows (option_to_list last)
+    → IsLast key part xs last
+last_read key part view Reads back xs [] None (inl h) read = inl (h.1, refl)
+last_read key part view Reads back xs (row ∷ rows) (Some y) (inr h) read =
+    let same : row ≡ view h.0 = let e = h.1 in cc in
+    inr (h.0, h.2, ap Some (back h.0 y (subst (λ r. Reads r y) same read.0)), h.3)
+last_read key part view Reads back xs [] None (inr h) read = absurd (let e = h.1 in cc)
+last_read key part view Reads back xs (row ∷ rows) (Some y) (inl h) read =
+    absurd (let e = h.0 in cc)
+last_read key part view Reads back xs rows last show read = absurd (grind arith)
 
--- the query for the last by a number that each value has
+-- the query for a part of the last by a number that each value has
+pub last_part : {K X Y Same : Type 0} (t : TableOf K X) (key : X → ℕ) (part : X → Y) (view : X → Row)
+    {ReadsRow : Row → Y → Type 0} {IsValue : Row → Type 0} {text : List ℕ} {params : Row}
+    {names : List (List ℕ)} {test terms : List Term} {at : Term} {old new : State}
+    {r : Result (Option Y) StoreFault}
+    → Asked Same ReadsRow IsValue option_to_list text params old new r
+    → Selects text (last_of t.tree test terms at) names
+    → ((a : X) (b : Y) → ReadsRow (view a) b → b ≡ part a)
+    → ((row : Row) → shows terms params row ≡ shows terms [] row)
+    → ((k : K) → shows terms params (t.row k) ≡ view (t.value k))
+    → ((a b : K) → output_cmp (last_of t.tree test terms at)
+    (output (last_of t.tree test terms at) (params ∷ t.row a ∷ []))
+    (output (last_of t.tree test terms at) (params ∷ t.row b ∷ []))
+    ≡ nat_cmp (key (t.value b)) (key (t.value a)))
+    → (passing : X → Bool) → ((k : K) → passes test params (t.row k) ≡ passing (t.value k))
+    → Found (λ c last. IsLast key part (filter passing (t.list c)) last) t.tree terms IsValue old
+    new r
+last_part t key part view {ReadsRow} {text = text} {params} {test = test} {terms} {at} {old} {new} {r}
+    asked means back same shown orders passing tests = record {
+      told = λ c holding now. if_ok r (λ last it.
+          let tables = tables_shown c text params old new it.0 asked.leaves.spares.clean holding now
+          it.1 in
+          last_read key part view ReadsRow back (filter passing (t.list c)) it.0 last
+          (shows_last key view passing tests shown orders (t.kept c old.now tables)
+          (last_by text params old new tables.schema t.tree test terms at means it.0 it.1)) it.2)
+          (asked.read.read now);
+      fails = fails_of t.tree terms (last_rows text params t.tree test terms at means old new
+          asked.leaves.spares.clean) same r asked.read;
+      leaves = asked.leaves;
+    }
+
+-- the number of the last is the greatest
+last_greatest : {X : Type 0} (key : X → ℕ) (xs : List X) (last : Option ℕ)
+    → IsLast key key xs last → IsGreatest key xs (unwrap_or last 0)
+last_greatest key xs last (inl none) = inl (none.0, ap (λ n. unwrap_or n 0) none.1)
+last_greatest key xs last (inr it) =
+    let is : unwrap_or last 0 ≡ key it.0 = ap (λ n. unwrap_or n 0) it.2 in
+    inr (it.0, it.1, sym is, λ y has. subst (λ m. key y ≤ m) (sym is) (it.3 y has))
+
+-- the query for the last number
 pub greatest : {K X Same : Type 0} (t : TableOf K X) (key : X → ℕ) {text : List ℕ} {params : Row}
     {names : List (List ℕ)} {test : List Term} {at : Term} {old new : State}
     {r : Result (Option ℕ) StoreFault}
     → Asked Same ReadsCount IsNumberRow option_to_list text params old new r
-    → Selects text (last_of t.tree test at) names
+    → Selects text (last_of t.tree test (at ∷ []) at) names
     → ((row : Row) → shows (at ∷ []) params row ≡ shows (at ∷ []) [] row)
     → ((k : K) → shows (at ∷ []) params (t.row k) ≡ count_value (key (t.value k)) ∷ [])
-    → ((a b : K) → output_cmp (last_of t.tree test at)
-    (output (last_of t.tree test at) (params ∷ t.row a ∷ []))
-    (output (last_of t.tree test at) (params ∷ t.row b ∷ []))
+    → ((a b : K) → output_cmp (last_of t.tree test (at ∷ []) at)
+    (output (last_of t.tree test (at ∷ []) at) (params ∷ t.row a ∷ []))
+    (output (last_of t.tree test (at ∷ []) at) (params ∷ t.row b ∷ []))
     ≡ nat_cmp (key (t.value b)) (key (t.value a)))
     → (passing : X → Bool) → ((k : K) → passes test params (t.row k) ≡ passing (t.value k))
     → Found (λ c last. IsGreatest key (filter passing (t.list c)) (unwrap_or last 0)) t.tree
     (at ∷ []) IsNumberRow old new r
-greatest t key {text} {params} {test = test} {at} {old} {new} {r} asked means same shown orders
-    passing tests = record {
-      told = λ c holding now. if_ok r (λ last it.
-          let tables = tables_shown c text params old new it.0 asked.leaves.spares.clean holding now
-          it.1 in
-          greatest_read key (filter passing (t.list c)) it.0 last
-          (shows_greatest key passing tests shown orders (t.kept c old.now tables)
-          (last_by text params old new tables.schema t.tree test at means it.0 it.1)) it.2)
-          (asked.read.read now);
-      fails = fails_of t.tree (at ∷ []) (last_rows text params t.tree test at means old new
-          asked.leaves.spares.clean) same r asked.read;
-      leaves = asked.leaves;
+greatest t key {r = r} asked means same shown orders passing tests =
+    let it = last_part t key key (λ x. count_value (key x) ∷ []) asked means
+    (λ a b read. count_back (key a) b read) same shown orders passing tests in
+    record {
+      told = λ c holding now. if_ok r (last_greatest key (filter passing (t.list c)))
+          (it.told c holding now);
+      fails = it.fails;
+      leaves = it.leaves;
     }
 
 -- the first of the values that pass

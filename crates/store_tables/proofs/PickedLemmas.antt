@@ -94,11 +94,11 @@ first_by sql params old new has count tree test project order is rows h =
     (picks_first count tree test project order params (overlay old.now.trees []) rows
     (got.answer Null))
 
-pub picks_last : (tree : ℕ) (test : List Term) (at : Term) (params : Row) (db : Trees)
-    (rows : List Row) → IsAnswer (last_of tree test at) db params rows
-    → PicksLast tree test at params (db tree) rows
-picks_last tree test at params db rows a =
-    let q = last_of tree test at in
+pub picks_last : (tree : ℕ) (test project : List Term) (at : Term) (params : Row) (db : Trees)
+    (rows : List Row) → IsAnswer (last_of tree test project at) db params rows
+    → PicksLast tree test project at params (db tree) rows
+picks_last tree test project at params db rows a =
+    let q = last_of tree test project at in
     let back = put_out q test params (db tree) a.grouped a.distinct a.same in record {
       picked = back.0;
       same = back.1;
@@ -108,10 +108,10 @@ picks_last tree test at params db rows a =
     }
 
 pub last_by : {names : List (List ℕ)} (sql : List ℕ) (params : Row) (old new : State)
-    (has : old.now.schema ≡ desk_schema) (tree : ℕ) (test : List Term) (at : Term)
-    → Selects sql (last_of tree test at) names → (rows : List Row)
-    → Shown sql params old new rows → PicksLast tree test at params (old.now.trees tree) rows
-last_by sql params old new has tree test at is rows h =
+    (has : old.now.schema ≡ desk_schema) (tree : ℕ) (test project : List Term) (at : Term)
+    → Selects sql (last_of tree test project at) names → (rows : List Row)
+    → Shown sql params old new rows → PicksLast tree test project at params (old.now.trees tree) rows
+last_by sql params old new has tree test project at is rows h =
     let got = reads_as sql params old new desk_schema has _ is.is is.plain is.unlisted rows h in
     rw (bare old.now.trees tree) at
-    (picks_last tree test at params (overlay old.now.trees []) rows (got.answer Null))
+    (picks_last tree test project at params (overlay old.now.trees []) rows (got.answer Null))

@@ -18,9 +18,8 @@ use Rattle.sqlite_trees.proofs.ListLemmas.{map-map, pull_back}
 use Rattle.sqlite_rules.proofs.PlaceLemmas.{zip_more}
 use Rattle.store_tables.specs.Kept.{Holds}
 use Rattle.store_tables.specs.Query.{last_of, reads}
-use Rattle.store_tables.specs.Values.{count_value}
 use Rattle.store_tables.specs.Picked.{passes, shows, Picks, Shows, Lists, AreOrdered, PicksLast}
-use Rattle.store_tables.specs.Picked.{AreFirst, ShowsGreatest}
+use Rattle.store_tables.specs.Picked.{AreFirst, ShowsLast}
 use Rattle.store_tables.proofs.KeptLemmas.{Spells, found, spells_part, unmapped_one}
 use Rattle.std.proofs.lemmas.Map.Keys.{ge_from_not_lt}
 use Rattle.std.proofs.lemmas.Cmp.{back_total, nat_cmp_total}
@@ -171,40 +170,42 @@ head_greatest key x ys sorted y (inr later) =
 pub no_permutation : {X : Type 0} (xs : List X) → IsPermutation xs [] → xs ≡ []
 no_permutation xs same = nil_from_length xs (sym (length_permutation xs [] same))
 
-module _ {K X : Type 0} {row : K → Row} {value : K → X} {tree : ℕ} {test : List Term} {at : Term}
-    {params : Row} {xs : List X} {from rows : List Row} (key : X → ℕ) (p : X → Bool)
-    (tests : (k : K) → passes test params (row k) ≡ p (value k))
-    (shown : (k : K) → shows (at ∷ []) params (row k) ≡ count_value (key (value k)) ∷ [])
-    (orders : (a b : K) → output_cmp (last_of tree test at)
-    (output (last_of tree test at) (params ∷ row a ∷ []))
-    (output (last_of tree test at) (params ∷ row b ∷ [])) ≡ nat_cmp (key (value b)) (key (value a)))
-    (holds : Holds row value xs from) (picks : PicksLast tree test at params from rows) where
-  first_of : (ks : List K) → rows ≡ take 1 (map (shows (at ∷ []) params) (map row ks))
-      → IsPermutation (filter p xs) (map value ks)
-      → IsSorted (λ a b. nat_cmp (key b) (key a)) (map value ks)
-      → ShowsGreatest key (filter p xs) rows
-  first_of [] is same sorted = inl (is, no_permutation (filter p xs) same)
-  first_of (k ∷ ks) is same sorted = inr (
-    value k,
-    is ∙ ap (λ r. r ∷ []) (shown k),
-    has_permuted (value k ∷ map value ks) (filter p xs) (value k) (IsPermutation-sym _ _ same)
-        (inl refl),
-    λ y has. head_greatest key (value k) (map value ks) sorted y
-        (has_permuted (filter p xs) (value k ∷ map value ks) y same has),
-  )
+module _ {K X : Type 0} {row : K → Row} {value : K → X} {tree : ℕ} {test project : List Term}
+    {at : Term} {params : Row} {xs : List X} {from rows : List Row} (key : X → ℕ) (view : X → Row)
+    (p : X → Bool) (tests : (k : K) → passes test params (row k) ≡ p (value k))
+    (shown : (k : K) → shows project params (row k) ≡ view (value k))
+    (orders : (a b : K) → output_cmp (last_of tree test project at)
+    (output (last_of tree test project at) (params ∷ row a ∷ []))
+    (output (last_of tree test project at) (params ∷ row b ∷ []))
+    ≡ nat_cmp (key (value b)) (key (value a)))
+    (holds : Holds row value xs from) (picks : PicksLast tree test project at params from rows)
+  where
+    first_of : (ks : List K) → rows ≡ take 1 (map (shows project params) (map row ks))
+        → IsPermutation (filter p xs) (map value ks)
+        → IsSorted (λ a b. nat_cmp (key b) (key a)) (map value ks)
+        → ShowsLast key view (filter p xs) rows
+    first_of [] is same sorted = inl (is, no_permutation (filter p xs) same)
+    first_of (k ∷ ks) is same sorted = inr (
+      value k,
+      is ∙ ap (λ r. r ∷ []) (shown k),
+      has_permuted (value k ∷ map value ks) (filter p xs) (value k) (IsPermutation-sym _ _ same)
+          (inl refl),
+      λ y has. head_greatest key (value k) (map value ks) sorted y
+          (has_permuted (filter p xs) (value k ∷ map value ks) y same has),
+    )
 
-  pub shows_greatest : ShowsGreatest key (filter p xs) rows
-  shows_greatest =
-      let left = found holds (passes test params) p tests in
-      let back = pull_back row _ picks.picked (rw left.spelt at picks.same) left.kept refl in
-      let put = λ (k : K). output (last_of tree test at) (params ∷ row k ∷ []) in
-      let sorted = sorted_as put value (output_cmp (last_of tree test at))
-      (λ a b. nat_cmp (key b) (key a)) orders back.0
-      (rw (back.2, map-map (λ r. output (last_of tree test at) (params ∷ r ∷ [])) row back.0) at
-      picks.sorted) in
-      first_of back.0 (picks.shown ∙ ap (λ rs. take 1 (map (shows (at ∷ []) params) rs)) back.2)
-      (IsPermutation-trans _ _ _ (IsPermutation-sym _ _ left.same)
-      (IsPermutation-map value _ _ back.1)) sorted
+    pub shows_last : ShowsLast key view (filter p xs) rows
+    shows_last =
+        let left = found holds (passes test params) p tests in
+        let back = pull_back row _ picks.picked (rw left.spelt at picks.same) left.kept refl in
+        let last = last_of tree test project at in
+        let put = λ (k : K). output last (params ∷ row k ∷ []) in
+        let sorted = sorted_as put value (output_cmp last) (λ a b. nat_cmp (key b) (key a)) orders
+        back.0 (rw (back.2, map-map (λ r. output last (params ∷ r ∷ [])) row back.0) at picks.sorted)
+        in
+        first_of back.0 (picks.shown ∙ ap (λ rs. take 1 (map (shows project params) rs)) back.2)
+        (IsPermutation-trans _ _ _ (IsPermutation-sym _ _ left.same)
+        (IsPermutation-map value _ _ back.1)) sorted
 
 -- ---- what passes of a table, by the rows that pass
 

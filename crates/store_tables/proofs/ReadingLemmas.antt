@@ -54,15 +54,15 @@ has_first [] x h = absurd h
 has_first (y ∷ ys) x (inl same) = inl same
 has_first (y ∷ ys) x (inr h) = absurd h
 
-pub last_rows : {names : List (List ℕ)} (sql : List ℕ) (params : Row) (tree : ℕ) (test : List Term)
-    (at : Term) → Selects sql (last_of tree test at) names
+pub last_rows : {names : List (List ℕ)} (sql : List ℕ) (params : Row) (tree : ℕ)
+    (test project : List Term) (at : Term) → Selects sql (last_of tree test project at) names
     → (old new : State) → (HasCleanDisk new → HasCleanDisk old) → HasTables old → HasCleanDisk new
     → (rows : List Row) → Shown sql params old new rows → (row : Row) → Has rows row
-    → IsTrue old.is_open × (r : Row) × Has (old.now.trees tree) r × (row ≡ shows (at ∷ []) params r)
-last_rows sql params tree test at is old new clean has c rows h row within =
+    → IsTrue old.is_open × (r : Row) × Has (old.now.trees tree) r × (row ≡ shows project params r)
+last_rows sql params tree test project at is old new clean has c rows h row within =
     let live = shown_open sql params old new rows h in
-    let p = last_by sql params old new (has (clean c) live) tree test at is rows h in
-    let it = has_picked test (at ∷ []) params (old.now.trees tree) p.picked p.same row
+    let p = last_by sql params old new (has (clean c) live) tree test project at is rows h in
+    let it = has_picked test project params (old.now.trees tree) p.picked p.same row
     (has_first _ row (subst (λ rs. Has rs row) p.shown within)) in
     (live, it.0, it.1, it.2)
 

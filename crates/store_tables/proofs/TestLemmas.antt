@@ -1,8 +1,8 @@
 -- What the tests and orders of the statements are on values.
-use Rattle.std.proofs.Common.{◌≡◌, ℕ, ℤ, pos, List, [], ◌∷◌, refl, ap, None, Some, ◌∙◌, ◌==◌, is_lt}
-use Rattle.std.proofs.Common.{Bool, false, Ordering, Option, arith, nat_lt, is_eq, nat_cmp}
+use Rattle.std.proofs.Common.{◌≡◌, ℕ, pos, List, refl, ap, None, Some, ◌∙◌, ◌==◌, is_lt}
+use Rattle.std.proofs.Common.{Bool, false, Option, arith, nat_lt, is_eq, nat_cmp, not}
 use Rattle.std.specs.Option.{option_cmp, option_map_or}
-use Rattle.std.specs.Ordering.{is_gt}
+use Rattle.std.specs.Ordering.{is_gt, is_ne}
 use Rattle.std.specs.Cmp.Lexicographic.{slice_cmp}
 use Rattle.std.proofs.lemmas.Bool.Decides.{nat_tests}
 use Rattle.sqlite.specs.declared.types.Value.TheVariants.{Int, Null, Text as Words}
@@ -10,18 +10,14 @@ use Rattle.sqlite.specs.Values.{or_null}
 use Rattle.sqlite.specs.Collation.TheVariants.{Binary}
 use Rattle.sqlite.specs.Ops.{binary, is_true, from_truth}
 use Rattle.sqlite_sql.specs.declared.ops.BinaryOp.TheVariants.{Compare}
-use Rattle.sqlite_sql.specs.declared.ops.CompareOp.TheVariants.{Eq, Gt, Lt}
-use Rattle.sqlite_value.proofs.OrderLemmas.{value_cmp-Text, value_cmp-Int, then-Equal}
+use Rattle.sqlite_sql.specs.declared.ops.CompareOp.TheVariants.{Eq, Gt, Lt, Ne}
+use Rattle.sqlite_value.proofs.OrderLemmas.{value_cmp-Text, value_cmp-Int}
 use Rattle.sqlite_value.proofs.OrderLemmas.{value_cmp-Null, value_cmp-apart}
-use Rattle.sqlite.specs.Order.{Row, value_cmp}
-use Rattle.sqlite.specs.Term.{Term}
-use Rattle.sqlite.specs.Query.{output, output_cmp}
-use Rattle.desk_model.specs.declared.rows.Entry.{Entry}
-use Rattle.store_tables.specs.Contents.Entry.{by_number, entry_columns, entry_shown_terms}
-use Rattle.store_tables.specs.Contents.Request.{Dated, by_id, dated_row}
-use Rattle.store_tables.specs.Query.{id_order, number_order, reads}
+use Rattle.sqlite.specs.Order.{value_cmp}
+use Rattle.desk_model.specs.Readings.History.{is_comment}
+use Rattle.desk_model.specs.declared.rows.EntryKind.{EntryKind}
+use Rattle.store_tables.specs.Contents.Entry.{entry_kind_number}
 use Rattle.store_tables.specs.Values.{count_value}
-use Rattle.store_tables.specs.Kept.{filed}
 
 true_again : (b : Bool) → is_true (from_truth (Some b)) ≡ b
 true_again b = grind arith
@@ -38,6 +34,15 @@ pub equal_numbers : (a b : ℕ) → is_true (binary (Compare Eq Binary) (Int (po
     ≡ (a == b)
 unfolding binary
 equal_numbers a b = true_again _ ∙ ap is_eq (order_numbers a b) ∙ grind (arith, nat_tests)
+
+pub unequal_numbers : (a b : ℕ) → is_true (binary (Compare Ne Binary) (Int (pos a)) (Int (pos b)))
+    ≡ not (a == b)
+unfolding binary
+unequal_numbers a b = true_again _ ∙ ap is_ne (order_numbers a b) ∙ grind (arith, nat_tests)
+
+-- the number of a comment
+pub comment_number : (k : EntryKind) → (entry_kind_number k == 5) ≡ is_comment k
+comment_number k = grind arith
 
 -- whether a number comes after another
 pub number_after : (a b : ℕ) → is_true (binary (Compare Gt Binary) (Int (pos a)) (Int (pos b)))

@@ -1,11 +1,10 @@
 -- What a query on one table answers.
-use Rattle.std.specs.Prelude.{◌≡◌, ◌⊎◌, ◌≤◌, ℕ, pos, Bool, List, [], ◌∷◌, map, filter}
-use Rattle.std.specs.Prelude.{take, IsPermutation, IsSorted}
+use Rattle.std.specs.Prelude.{◌≡◌, ◌⊎◌, ◌≤◌, ℕ, Bool, List, [], ◌∷◌, map, filter, None, Option}
+use Rattle.std.specs.Prelude.{Some, take, IsPermutation, IsSorted}
 use Rattle.std.specs.declared.cmp.Ordering.{Ordering}
 use Rattle.sqlite_rules.specs.Lists.{Has}
 use Rattle.std.specs.List.{list_all}
 use Rattle.sqlite.specs.Order.{Row}
-use Rattle.sqlite.specs.declared.types.Value.TheVariants.{Int}
 use Rattle.sqlite.specs.Term.{Term, eval_all, holds}
 use Rattle.sqlite.specs.Query.{output, output_cmp}
 use Rattle.store_tables.specs.Query.{last_of, reads}
@@ -26,13 +25,13 @@ pub record Picks (tree : ℕ) (test project order : List Term) (params : Row) (f
   pub shown : rows ≡ map (shows project params) picked
 
 -- the same of the last by one column: the first in the other direction
-pub record PicksLast (tree : ℕ) (test : List Term) (at : Term) (params : Row)
+pub record PicksLast (tree : ℕ) (test project : List Term) (at : Term) (params : Row)
     (from rows : List Row) : Type 0 where
   pub picked : List Row
   pub same : IsPermutation (filter (passes test params) from) picked
-  pub sorted : IsSorted (output_cmp (last_of tree test at))
-      (map (λ r. output (last_of tree test at) (params ∷ r ∷ [])) picked)
-  pub shown : rows ≡ take 1 (map (shows (at ∷ []) params) picked)
+  pub sorted : IsSorted (output_cmp (last_of tree test project at))
+      (map (λ r. output (last_of tree test project at) (params ∷ r ∷ [])) picked)
+  pub shown : rows ≡ take 1 (map (shows project params) picked)
 
 -- what is shown is the view of these values, in some order
 pub record Shows {X : Type 0} (view : X → Row) (xs : List X) (rows : List Row) : Type 0 where
@@ -71,8 +70,12 @@ abbrev pub IsGreatest : {X : Type 0} → (X → ℕ) → List X → ℕ → Type
 IsGreatest key xs n = ((xs ≡ []) × (n ≡ 0)) ⊎ ((x : _) × Has xs x × (key x ≡ n)
     × ((y : _) → Has xs y → key y ≤ n))
 
--- the one row shows that number, or there is no row
-abbrev pub ShowsGreatest : {X : Type 0} → (X → ℕ) → List X → List Row → Type 0
-ShowsGreatest key xs rows = ((rows ≡ []) × (xs ≡ []))
-    ⊎ ((x : _) × (rows ≡ (Int (pos (key x)) ∷ []) ∷ []) × Has xs x
+-- a part of the value that has the greatest number among some, or none where there are none
+abbrev pub IsLast : {X Y : Type 0} → (X → ℕ) → (X → Y) → List X → Option Y → Type 0
+IsLast key part xs last = ((xs ≡ []) × (last ≡ None)) ⊎ ((x : _) × Has xs x × (last ≡ Some (part x))
     × ((y : _) → Has xs y → key y ≤ key x))
+
+-- the one row is the view of that value, or there is no row
+abbrev pub ShowsLast : {X : Type 0} → (X → ℕ) → (X → Row) → List X → List Row → Type 0
+ShowsLast key view xs rows = ((rows ≡ []) × (xs ≡ []))
+    ⊎ ((x : _) × (rows ≡ view x ∷ []) × Has xs x × ((y : _) → Has xs y → key y ≤ key x))

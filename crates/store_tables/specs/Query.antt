@@ -43,13 +43,13 @@ first_of count tree filter project order = record {
   offset = lit (Int (pos 0));
 }
 
--- the last by one column: the query in the other direction, cut to one row
-abbrev pub last_of : ℕ → List Term → Term → Query
-last_of tree test column = record {
+-- what is shown of the last by one column: the query in the other direction, cut to one row
+abbrev pub last_of : ℕ → List Term → List Term → Term → Query
+last_of tree test project column = record {
   from = inner tree end;
   filter = test;
   group = None;
-  project = column ∷ [];
+  project = project;
   distinct = false;
   collations = [];
   order = (column, record { collation = Binary; descending = true }) ∷ [];

@@ -5,7 +5,7 @@ use Rattle.desk_model.specs.Desk.{Desk}
 use Rattle.desk_model.specs.IsDesk.{IsDesk}
 use Rattle.desk_model.specs.declared.rows.RequestRow.{RequestRow}
 use Rattle.store_tables.specs.Contents.Entry.{IsBareEntry, IsEntryRow, bare_shown, entry}
-use Rattle.store_tables.specs.Contents.Entry.{entry_shown_terms}
+use Rattle.store_tables.specs.Contents.Entry.{entry_shown_terms, moment_terms}
 use Rattle.store_tables.specs.Contents.Link.{IsLinkRow, link}
 use Rattle.store_tables.specs.Contents.Queue.{IsQueueRow, queue, queue_shown}
 use Rattle.store_tables.specs.Contents.Request.{IsDatedRow, IsRequestRow, dated_shown_terms}
@@ -13,7 +13,7 @@ use Rattle.store_tables.specs.Contents.Request.{last_id_terms, request, request_
 use Rattle.store_tables.specs.Contents.Stay.{IsStayRow, stay, stay_shown}
 use Rattle.store_tables.specs.Contents.Watcher.{IsWatcherRow, watcher}
 use Rattle.store_tables.specs.Query.{three_shown}
-use Rattle.store_tables.specs.Values.{IsNumberRow}
+use Rattle.store_tables.specs.Values.{IsMinuteRow, IsNumberRow}
 use Rattle.store_tables.specs.Calls.{Answers, AreThere, FailsIn, LeavesTables, ValidatesTable}
 use Rattle.store_tables.specs.Contents.{Contents, contents_of, HasBadRows}
 use Rattle.store_tables.specs.declared.fault.StoreFault.{StoreFault}
@@ -68,6 +68,10 @@ MismatchesInLinks old new result = FailsIn link.tree three_shown IsLinkRow old n
 
 abbrev pub MismatchesInEntries : {X : Type 0} → State → State → Result X StoreFault → Type 0
 MismatchesInEntries old new result = FailsIn entry.tree entry_shown_terms IsEntryRow old new result
+
+-- of their moments alone
+abbrev pub MismatchesInMoments : {X : Type 0} → State → State → Result X StoreFault → Type 0
+MismatchesInMoments old new result = FailsIn entry.tree moment_terms IsMinuteRow old new result
 
 abbrev pub MismatchesInStays : {X : Type 0} → State → State → Result X StoreFault → Type 0
 MismatchesInStays old new result = FailsIn stay.tree stay_shown IsStayRow old new result

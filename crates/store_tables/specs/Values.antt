@@ -52,13 +52,18 @@ abbrev pub MismatchesAt : {X : Type 0} → (Value → Type 0) → Row → ℕ �
 MismatchesAt IsValue row at result =
     IfErr result (λ e. e ≡ Mismatch → at < length row → ¬ IsValue (column row at))
 
--- a row of one number: a version, the last number, or that of a request
+-- a row of one number: a version, the last number, that of a request, or a moment
 pub record ReadsCount (row : Row) (n : ℕ) : Type 0 where
   pub number : column row 0 ≡ count_value n
 
 pub record IsNumberRow (row : Row) : Type 0 where
   pub wide : 0 < length row
   pub number : IsCount (column row 0)
+
+-- a row of one moment
+pub record IsMinuteRow (row : Row) : Type 0 where
+  pub wide : 0 < length row
+  pub moment : IsMinute (column row 0)
 
 -- a row of one whole number: a version, which may be none that is known
 pub record ReadsWhole (row : Row) (z : ℤ) : Type 0 where

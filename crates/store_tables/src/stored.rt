@@ -2,11 +2,13 @@
 
 ghost use Rattle.std.specs.Prelude.{◌≡◌, ◌≢◌, IfOk, IfErr};
 ghost use Rattle.sqlite.specs.Order.{Row as Columns};
-ghost use Rattle.store_tables.specs.Values.{IsNumberRow, IsWholeRow, ReadsCount, ReadsWhole};
+ghost use Rattle.store_tables.specs.Values.{IsMinuteRow, IsNumberRow, IsWholeRow, ReadsCount};
+ghost use Rattle.store_tables.specs.Values.{ReadsWhole};
 ghost use Rattle.store_tables.specs.declared.fault.StoreFault.{StoreFault};
 
-use crate::columns::{number_at, whole_at};
+use crate::columns::{minute_at, number_at, whole_at};
 use crate::fault::StoreFault;
+use hours_core::Minute;
 use sqlite::Row;
 
 /// A value that a row of a query shows.
@@ -33,6 +35,17 @@ impl Stored for u32 {
 
     fn read(row: &Row) -> Result<u32, StoreFault> {
         number_at(row, 0)
+    }
+}
+
+/// When something was done.
+impl Stored for Minute {
+    ghost reads = { ReadsCount };
+
+    ghost is_value = { IsMinuteRow };
+
+    fn read(row: &Row) -> Result<Minute, StoreFault> {
+        minute_at(row, 0)
     }
 }
 

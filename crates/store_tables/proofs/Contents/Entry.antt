@@ -6,8 +6,8 @@ use Rattle.store_tables.specs.Contents.Entry.{entry}
 use Rattle.store_tables.specs.Contents.Entry.{BareEntry, IsBareEntry, IsEntryRow, ReadsActor}
 use Rattle.store_tables.specs.Contents.Entry.{ReadsEntry, bare_columns, bare_of, bare_shown}
 use Rattle.store_tables.specs.Contents.Entry.{entry_columns, entry_shown_terms, last_number_terms}
-use Rattle.store_tables.specs.Contents.Entry.{place_of}
-use Rattle.store_tables.specs.Values.{IsNumberRow, ReadsCount, count_value}
+use Rattle.store_tables.specs.Contents.Entry.{moment_of, moment_terms, place_of}
+use Rattle.store_tables.specs.Values.{IsMinuteRow, IsNumberRow, ReadsCount, count_value}
 use Rattle.store_tables.specs.Picked.{shows}
 use Rattle.store_tables.specs.Kept.{filed, value_of}
 use Rattle.store_tables.proofs.BackLemmas.{count_back}
@@ -61,3 +61,10 @@ place_table = part_of entry_table last_number_terms place_of (λ n. count_value 
     IsNumberRow count_back (λ params k. refl) (λ params r. refl)
     (λ x is. record { wide = omega arith; number = is.number })
     (λ r is. record { wide = omega arith; number = is.number })
+
+-- and when they were made
+abbrev pub moment_table : TableOf (ℤ × Entry) ℕ
+moment_table = part_of entry_table moment_terms moment_of (λ n. count_value n ∷ []) ReadsCount
+    IsMinuteRow count_back (λ params k. refl) (λ params r. refl)
+    (λ x is. record { wide = omega arith; moment = is.moment })
+    (λ r is. record { wide = omega arith; moment = is.moment })

@@ -1,5 +1,6 @@
 -- The table `entry`: its columns, how an entry is spelt and read there, its statements.
-use Rattle.std.specs.Prelude.{[], ◌∷◌, ◌++◌, codes, List, ℕ, ◌≡◌, ◌<◌, length, Bool, ◌==◌}
+use Rattle.std.specs.Prelude.{[], ◌∷◌, ◌++◌, codes, List, ℕ, ◌≡◌, ◌<◌, length, Bool, ◌==◌, ◌&&◌}
+use Rattle.std.specs.Prelude.{◌||◌, not}
 use Rattle.sqlite.specs.declared.types.Value.TheVariants.{Null, Text as Words}
 use Rattle.sqlite.specs.Table.{Table}
 use Rattle.sqlite_schema.specs.declared.schema.Index.{Index}
@@ -10,6 +11,7 @@ use Rattle.sqlite.specs.declared.types.Value.{Value}
 use Rattle.desk_model.specs.declared.rows.Entry.{Entry}
 use Rattle.desk_model.specs.declared.rows.EntryKind.{EntryKind}
 use Rattle.desk_model.specs.declared.rows.EntryKind.TheVariants as what
+use Rattle.desk_model.specs.Readings.History.{is_comment}
 use Rattle.std.specs.Ordering.{nat_cmp}
 use Rattle.std.specs.declared.cmp.Ordering.{Ordering}
 use Rattle.store_tables.specs.Strict.{needed, refers, strict_table, key_of}
@@ -109,9 +111,17 @@ pub record IsBareEntry (row : Row) : Type 0 where
 abbrev pub tells_of : ℕ → Entry → Bool
 tells_of id e = e.id == id
 
+-- one of them that counts where comments do, or don't
+abbrev pub is_told_of : Bool → ℕ → Entry → Bool
+is_told_of comments id e = tells_of id e && (not (is_comment e.kind) || comments)
+
 -- who made the entry
 abbrev pub actor_of : Entry → List ℕ
 actor_of e = e.actor
+
+-- when it was made
+abbrev pub moment_of : Entry → ℕ
+moment_of e = e.moment
 
 -- the number of an entry within its history
 abbrev pub place_of : Entry → ℕ
@@ -129,6 +139,9 @@ bare_shown = col 1 1 ∷ col 1 2 ∷ col 1 3 ∷ col 1 4 ∷ col 1 5 ∷ []
 
 abbrev pub last_number_terms : List Term
 last_number_terms = col 1 2 ∷ []
+
+abbrev pub moment_terms : List Term
+moment_terms = col 1 3 ∷ []
 
 abbrev pub add_entry_text : List ℕ
 add_entry_text =

@@ -153,9 +153,13 @@ has_number id p = is_numbered id p.0
 abbrev pub is_dated_in : List ℕ → Dated → Bool
 is_dated_in name p = is_filed_in name p.0
 
--- and after that number
+-- a request after that number
+abbrev pub comes_after : ℕ → Dated → Bool
+comes_after after p = nat_lt after p.0.id
+
+-- and of that queue
 abbrev pub is_dated_after : List ℕ → ℕ → Dated → Bool
-is_dated_after name after p = is_dated_in name p && nat_lt after p.0.id
+is_dated_after name after p = is_dated_in name p && comes_after after p
 
 -- a request that is due before that moment
 abbrev pub is_due_before : ℕ → Dated → Bool

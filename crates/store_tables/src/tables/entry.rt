@@ -7,9 +7,11 @@ ghost use Rattle.store_tables.specs.Contents.Entry.{IsEntryKind, entry_kind_numb
 ghost use Rattle.std.specs.Prelude.{◌≡◌, filter, [], map, IsPermutation, fold};
 ghost use Rattle.store_tables.specs.declared.fault.StoreFault.{StoreFault};
 ghost use Rattle.store_tables.specs.Contents.Entry.{IsBareEntry, IsEntryRow, ReadsActor, ReadsEntry};
-ghost use Rattle.store_tables.specs.Contents.Entry.{actor_of, by_number, place_of, tells_of};
-ghost use Rattle.store_tables.specs.Readings.{MismatchesInEntries, Reads, TestsEntries};
-ghost use Rattle.store_tables.specs.Picked.{AreOrdered, IsGreatest};
+ghost use Rattle.store_tables.specs.Contents.Entry.{actor_of, by_number, is_told_of, moment_of};
+ghost use Rattle.store_tables.specs.Contents.Entry.{place_of, tells_of};
+ghost use Rattle.store_tables.specs.Readings.{MismatchesInEntries, MismatchesInMoments, Reads};
+ghost use Rattle.store_tables.specs.Readings.{TestsEntries};
+ghost use Rattle.store_tables.specs.Picked.{AreOrdered, IsGreatest, IsLast};
 ghost use Rattle.store_tables.specs.Seen.{seen};
 ghost use Rattle.sqlite.specs.Held.{state};
 ghost use Rattle.store_tables.specs.Calls.{AnswersInTransaction, QueryInTransaction, StatementChanges};
@@ -23,6 +25,7 @@ use crate::tables::Tables;
 use crate::transaction::run_on_one;
 use crate::written::Put;
 use desk_model::{Entry, EntryKind};
+use hours_core::Minute;
 use sqlite::types::{ToSql, ValueRef};
 use sqlite::{Alter, Row, Transaction};
 use std::alloc::Global;
@@ -118,6 +121,36 @@ pub fn last_number<S: Alter>(tables: &mut Tables<S>, id: u32) -> Result<u32, Sto
         &[number(id)],
     )?;
     Ok(last.unwrap_or(0))
+}
+
+/// When the last entry of a request was made, or the last that is no comment, by number, none where
+/// there is none. `Mismatch` where the row shows no minute, `Refused` where the store or memory
+/// refuses it.
+pub fn last_moment<S: Alter>(
+    tables: &mut Tables<S>,
+    id: u32,
+    comments: bool,
+) -> Result<Option<Minute>, StoreFault>
+    ensures read { Reads (λ c moment.
+        IsLast place_of moment_of (filter (is_told_of comments id) c.entries) moment)
+        (seen S.Store tables.old) (seen S.Store tables.new) result }
+    ensures mismatch { MismatchesInMoments
+        (seen S.Store tables.old) (seen S.Store tables.new) result }
+{
+    if comments {
+        select_one(
+            tables,
+            "SELECT moment FROM entry WHERE request = ?1 ORDER BY number DESC LIMIT 1",
+            &[number(id)],
+        )
+    } else {
+        select_one(
+            tables,
+            "SELECT moment FROM entry WHERE request = ?1 AND kind <> 5 ORDER BY number DESC \
+             LIMIT 1",
+            &[number(id)],
+        )
+    }
 }
 
 /// Who made each entry, in no order that matters. `Mismatch` where a row is no entry, whose texts

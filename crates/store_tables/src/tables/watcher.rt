@@ -85,7 +85,9 @@ pub fn watchers_of<S: Alter>(
     tables: &mut Tables<S>,
     id: u32,
 ) -> Result<Vec<Watcher>, StoreFault>
-    ensures { Reads (λ c xs. AreOrdered by_role (filter (watches id) c.watchers) xs.items)
+    ensures read { Reads (λ c xs. AreOrdered by_role (filter (watches id) c.watchers) xs.items)
+        (seen S.Store tables.old) (seen S.Store tables.new) result }
+    ensures mismatch { MismatchesInWatchers
         (seen S.Store tables.old) (seen S.Store tables.new) result }
 {
     watcher_rows(

@@ -2,7 +2,8 @@
 ghost use Rattle.std.specs.Prelude.{◌≡◌, filter, option_to_list, fold, IfOk};
 ghost use Rattle.store_tables.specs.declared.fault.StoreFault.{StoreFault};
 ghost use Rattle.store_tables.specs.Contents.Request.{IsDatedRow, ReadsDated, by_dated_id, by_due};
-ghost use Rattle.store_tables.specs.Contents.Request.{has_number, is_dated_after, is_dated_in};
+ghost use Rattle.store_tables.specs.Contents.Request.{comes_after, has_number, is_dated_after};
+ghost use Rattle.store_tables.specs.Contents.Request.{is_dated_in};
 ghost use Rattle.store_tables.specs.Contents.Request.{is_due_before};
 ghost use Rattle.store_tables.specs.Readings.{MismatchesInDated, Reads, TestsDated};
 ghost use Rattle.store_tables.specs.Picked.{AreFirst, AreOrdered};
@@ -120,6 +121,29 @@ pub fn dated_after<S: Alter>(
         "SELECT id, queue, subject, status, owner, level, created, opened, turn, since, due FROM \
         request WHERE queue = ?1 AND id > ?2 ORDER BY id LIMIT 64",
         &[words(queue), number(after)],
+    )
+}
+
+/// The first 1,024 requests after that number, by number, each with its due moment. `Mismatch`
+/// where one of these rows is no request or its due moment is neither a minute nor absent,
+/// `Refused` where the store or memory refuses it.
+pub fn dated_block<S: Alter>(
+    alloc: Global,
+    tables: &mut Tables<S>,
+    after: u32,
+) -> Result<Vec<(RequestRow, Option<Minute>)>, StoreFault>
+    ensures read { Reads (λ c xs.
+        AreFirst 1024 by_dated_id (filter (comes_after after) c.dated) xs.items)
+        (seen S.Store tables.old) (seen S.Store tables.new) result }
+    ensures mismatch { MismatchesInDated
+        (seen S.Store tables.old) (seen S.Store tables.new) result }
+{
+    dated_rows(
+        alloc,
+        tables,
+        "SELECT id, queue, subject, status, owner, level, created, opened, turn, since, due FROM \
+        request WHERE id > ?1 ORDER BY id LIMIT 1024",
+        &[number(after)],
     )
 }
 
