@@ -1,6 +1,6 @@
 -- Rows one at a time: what they begin with, and what comes next.
 use Rattle.std.proofs.Common.{◌≡◌, ◌∙◌, ◌+◌, ◌++◌, ◌∷◌, [], ℕ, List, None, Option, Result, Some, ap}
-use Rattle.std.proofs.Common.{◌-◌, Bool, eq-eqb, append-nil, append_assoc, arith, drop, false, filter}
+use Rattle.std.proofs.Common.{◌&&◌, ◌-◌, Bool, eq-eqb, append-nil, append_assoc, arith, drop, false, filter}
 use Rattle.std.proofs.Common.{inl, inr, length, map, nat_lt, option_to_list, refl, slice_get, subst, suc, sym}
 use Rattle.std.proofs.Common.{take, true, Less}
 use Rattle.std.specs.Option.{option_map_or}
@@ -17,8 +17,8 @@ use Rattle.desk_model.specs.IsDesk.{IsDesk, are_numbered}
 use Rattle.desk_model.specs.declared.rows.RequestRow.{RequestRow}
 use Rattle.store_tables.specs.Contents.{contents_of, request_rows}
 use Rattle.store_tables.specs.Contents.Request.{Dated, by_dated_id, by_due, dated_by}
-use Rattle.store_tables.specs.Contents.Request.{has_number, id_of, is_dated_after, is_due_before}
-use Rattle.store_tables.specs.Contents.Request.{is_filed_in}
+use Rattle.store_tables.specs.Contents.Request.{comes_after, has_number, id_of, is_dated_after}
+use Rattle.store_tables.specs.Contents.Request.{is_dated_in, is_due_before, is_filed_in}
 use Rattle.store_tables.specs.Kept.{itself}
 use Rattle.store_tables.specs.Picked.{AreFirst, AreParts}
 use Rattle.store_tables.specs.Readings.{Reads}
@@ -112,38 +112,49 @@ after_last (y ∷ z ∷ ys) zs rise x h =
     let low = all_has (λ w. by_dated_id y w ≡ Less) ((z ∷ ys) ++ zs) x rise.0 has in
     grind (arith, nat_tests, low, rest)
 
-filter_both : (p q both : Dated → Bool) → ((x : Dated) → p x ≡ true → q x ≡ both x)
-    → ((x : Dated) → p x ≡ false → both x ≡ false) → (xs : List Dated)
+pub filter_both : {X : Type 0} (p q both : X → Bool) → ((x : X) → p x ≡ true → q x ≡ both x)
+    → ((x : X) → p x ≡ false → both x ≡ false) → (xs : List X)
     → filter q (filter p xs) ≡ filter both xs
 filter_both p q both one two [] = refl
 filter_both p q both one two (x ∷ xs) =
     grind (arith, one x, two x, filter_both p q both one two xs)
 
-module _ (ds : List Dated) (rise : Rises itself by_dated_id dated_total ds) (name : List ℕ)
-    (after : ℕ) (xs zs : List Dated) (are : filter (is_dated_after name after) ds ≡ xs ++ zs)
+-- of the rows that pass a test and come after a number, those after the last of the first
+module _ (ds : List Dated) (rise : Rises itself by_dated_id dated_total ds) (passing : Dated → Bool)
+    (after : ℕ) (xs zs : List Dated)
+    (are : filter (λ p. passing p && comes_after after p) ds ≡ xs ++ zs)
   where
     rest_by : (o : Option Dated) → slice_get xs (length xs - 1) ≡ o
-        → filter (is_dated_after name after) ds
-        ≡ xs ++ filter (is_dated_after name (option_map_or id_of o after)) ds
+        → filter (λ p. passing p && comes_after after p) ds
+        ≡ xs ++ filter (λ p. passing p && comes_after (option_map_or id_of o after) p) ds
     rest_by None none =
         let empty : xs ≡ [] = nil_from_length xs
         (grind (arith, none, slice_get_cases xs (length xs - 1))) in rw empty refl
     rest_by (Some x) is =
-        let test = is_dated_after name after in
+        let test = λ (p : Dated). passing p && comes_after after p in
         let up : Rises itself by_dated_id dated_total (xs ++ zs) =
         rw are at (ascending-filter _ test ds rise) in
         let has : Has (filter test ds) x = rw are (has_before xs zs x (has_got xs _ x is)) in
         let passed = (has_filtered test ds x has).1 in
         let others = after_last xs zs up x is in
         let same = filter_both test (λ p. nat_lt (id_of x) (id_of p))
-        (is_dated_after name (id_of x)) (λ p yes. grind (arith, yes))
+        (λ p. passing p && comes_after (id_of x) p) (λ p yes. grind (arith, yes))
         (λ p no. grind (arith, nat_tests, no, passed)) ds in
         are ∙ ap (λ l. xs ++ l) (sym others
         ∙ ap (filter (λ p. nat_lt (id_of x) (id_of p))) (sym are) ∙ same)
 
-    rest_after : filter (is_dated_after name after) ds
-        ≡ xs ++ filter (is_dated_after name (number_of_last xs after)) ds
+    pub rest_after : filter (λ p. passing p && comes_after after p) ds
+        ≡ xs ++ filter (λ p. passing p && comes_after (number_of_last xs after) p) ds
     rest_after = rest_by _ refl
+
+-- the first rows that were read of those that pass are the first of the desk's
+pub first_passing : (due : RequestRow → Option ℕ) (desk : Desk) → IsDesk desk → (count : ℕ)
+    (passing : Dated → Bool) (xs : List Dated)
+    → AreFirst count by_dated_id (filter passing (dated_rows due desk)) xs
+    → xs ≡ take count (filter passing (dated_rows due desk))
+first_passing due desk is count passing xs first =
+    first.are ∙ ap (take count)
+    (the_part dated_total passing (dated_rows due desk) _ (dated_rise due desk is) first.ordered)
 
 none_first : (n : ℕ) (xs : List Dated) → take (suc n) xs ≡ [] → xs ≡ []
 none_first n [] h = refl
@@ -158,12 +169,13 @@ pub reads_on : (due : RequestRow → Option ℕ) (desk : Desk) → IsDesk desk �
 reads_on due desk is old new first queue last =
     let ds = dated_rows due desk in
     let test = is_dated_after old.queue old.last in
-    let rise = dated_rise due desk is in
-    let are = first.are ∙ ap (take 64) (the_part dated_total test ds _ rise first.ordered) in
+    let are = first_passing due desk is 64 test new.read.items first in
     let whole : filter test ds ≡ new.read.items ++ drop 64 (filter test ds) =
     sym (take-append-drop 64 (filter test ds)) ∙ ap (λ l. l ++ drop 64 (filter test ds)) (sym are) in
     record {
-      same = rw (queue, last) (rest_after ds rise old.queue old.last new.read.items _ whole);
+      same = rw (queue, last)
+          (rest_after ds (dated_rise due desk is) (is_dated_in old.queue) old.last new.read.items _
+          whole);
       some = λ none. none_first 63 (filter test ds) (sym are ∙ none);
     }
 

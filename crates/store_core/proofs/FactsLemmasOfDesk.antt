@@ -18,6 +18,7 @@ use Rattle.sqlite_trees.proofs.ListLemmas.{ascending-filter, filter-map, all_of,
 use Rattle.sqlite_trees.proofs.ListLemmas.{map-map}
 use Rattle.sqlite.specs.State.{State}
 use Rattle.desk_model.specs.declared.rows.WatchRole.{WatchRole}
+use Rattle.desk_model.specs.declared.rows.WatchRole.TheVariants.{Requestor}
 use Rattle.desk_model.specs.Watchers.{is_role, watcher, may_show_by, watchers_of}
 use Rattle.desk_model.specs.declared.rows.LinkKind.{LinkKind}
 use Rattle.desk_model.specs.Links.{kind_number, has_link, is_kind, is_link}
@@ -76,6 +77,19 @@ of_role id role other names =
 persons_are : (r : Request)
     → seen_request_of r.row (watchers_of r) (length r.entries) ≡ seen_request r
 persons_are r = simp (filter-append, map-append, of_role, append-nil)
+
+-- the requestors of a request are its watchers in that role
+requestors_of : (o : Option Request)
+    → persons_in Requestor (option_map_or watchers_of o []) ≡ option_map_or (λ r. r.requestors) o []
+requestors_of None = refl
+requestors_of (Some r) = ap (λ (s : SeenRequest). s.requestors) (persons_are r)
+
+pub requestors_among : (desk : Desk) → IsDesk desk → (id : ℕ)
+    → persons_in Requestor (filter (watches id) (watchers desk))
+    ≡ option_map_or (λ r. r.requestors) (request_at desk id) []
+requestors_among desk is id =
+    ap (persons_in Requestor) (part_is watchers_of (λ w. w.id) desk is (all_of _ their_own _) id)
+    ∙ requestors_of (request_at desk id)
 
 -- ---- links
 

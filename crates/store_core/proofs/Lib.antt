@@ -1,5 +1,7 @@
 pub mod AheadLemmas
+pub mod BlockLemmas
 pub mod DatedWritten
+mod Examples
 pub mod FactsLemmas
 pub mod FactsLemmasOfDesk
 pub mod FrontLemmas

@@ -32,7 +32,7 @@ use Rattle.store_tables.specs.Contents.Request.{by_dated_id, by_id, dated_by}
 use Rattle.store_tables.specs.Contents.Stay.{StayRow, by_stay, by_stay_number, stay_rows}
 use Rattle.store_tables.specs.Contents.Stay.{stay_rows_from, stays}
 use Rattle.store_tables.specs.Contents.Watcher.{by_role, by_standing, by_watcher, is_of_person}
-use Rattle.store_tables.specs.Contents.Watcher.{role_number}
+use Rattle.store_tables.specs.Contents.Watcher.{role_number, watches}
 use Rattle.store_tables.specs.Kept.{itself}
 use Rattle.store_core.specs.Rows.{dated_rows}
 use Rattle.std.specs.Cmp.{IsTotalOrder}
@@ -216,6 +216,17 @@ watches_rise desk is person =
     _ (all_from (λ w. w.person ≡ person) _ (λ w has. same_text w.person person
     (sym (has_filtered (is_of_person person) (watchers desk) w has).1)))
     (ascending-filter _ (is_of_person person) (watchers desk) (watchers_rise desk is))
+
+-- and among those of one request the role and the person do
+pub roles_rise : (desk : Desk) → IsDesk desk → (id : ℕ)
+    → Rises itself by_role role_total (filter (watches id) (watchers desk))
+roles_rise desk is id =
+    let tied = tied_itself nat_cmp_total id in
+    ascending_where (λ a b. by_watcher a b ≡ Less) (λ a b. by_role a b ≡ Less)
+    (λ w. w.id ≡ id) (λ a b one two low. grind (arith, rw (one, two, tied) at low))
+    _ (all_from (λ w. w.id ≡ id) _ (λ w has. eqb-true w.id id
+    (has_filtered (watches id) (watchers desk) w has).1))
+    (ascending-filter _ (watches id) (watchers desk) (watchers_rise desk is))
 
 -- ---- entries
 

@@ -1,7 +1,7 @@
 -- Rows of requests that a store gives one at a time: by numbers that were read before, or those of a
 -- queue, of which several are read at once.
-use Rattle.std.specs.Prelude.{◌≡◌, ◌++◌, ◌∷◌, ◌-◌, ℕ, [], Err, List, None, Ok, Option, Result, Some}
-use Rattle.std.specs.Prelude.{drop, filter, length, slice_get, unwrap_or}
+use Rattle.std.specs.Prelude.{◌≡◌, ◌++◌, ◌∷◌, ℕ, [], Err, List, None, Ok, Option, Result, Some}
+use Rattle.std.specs.Prelude.{drop, filter, unwrap_or}
 use Rattle.std.specs.Option.{option_map_or}
 use Rattle.sqlite.specs.State.{HasCleanDisk}
 use Rattle.sqlite.specs.Store.{Ghosts}
@@ -16,6 +16,7 @@ use Rattle.store_tables.specs.Stands.{HoldCommitted}
 use Rattle.store_tables.specs.declared.fault.StoreFault.{StoreFault}
 use Rattle.store_core.specs.Rows.{dated_rows, rows_numbered}
 use Rattle.store_core.specs.Seen.{state_of}
+use Rattle.store_core.specs.Written.{last_of}
 use Rattle.store_core.specs.declared.rows.Progress.{Progress}
 use Rattle.store_core.specs.declared.rows.Progress.TheVariants.{Over, Reading, Spent}
 use Rattle.store_core.specs.declared.filed.Filed.{Filed}
@@ -64,7 +65,7 @@ TakesNext before None after = before ≡ []
 
 -- the number of the last row, or this one where there is none
 abbrev pub number_of_last : List Dated → ℕ → ℕ
-number_of_last rows number = option_map_or id_of (slice_get rows (length rows - 1)) number
+number_of_last rows number = option_map_or id_of (last_of rows) number
 
 -- it is so of each desk and due moments whose contents these are
 abbrev pub OfDated : {X : Type 0} → ((RequestRow → Option ℕ) → Desk → X → Type 0) → Contents → X

@@ -1,11 +1,12 @@
 -- What reads by key find of a desk, and how facts are put together of it.
-use Rattle.std.specs.Prelude.{◌==◌, ◌≡◌, ◌&&◌, ℕ, Bool, IfSome, List, [], filter, if◌then◌else◌}
-use Rattle.std.specs.Prelude.{is_some, map, Option, option_and_then, Some}
+use Rattle.std.specs.Prelude.{◌==◌, ◌≡◌, ◌&&◌, ◌||◌, ℕ, Bool, IfSome, List, [], filter}
+use Rattle.std.specs.Prelude.{if◌then◌else◌, is_some, map, not, Option, option_and_then, Some}
 use Rattle.std.specs.Option.{option_map, option_to_list}
 use Rattle.hours_core.specs.declared.stay.Stay.{Stay}
 use Rattle.desk_model.specs.declared.facts.Dependency.{Dependency}
 use Rattle.desk_model.specs.declared.facts.Facts.{Facts}
 use Rattle.desk_model.specs.declared.facts.SeenRequest.{SeenRequest}
+use Rattle.desk_model.specs.declared.rows.Entry.{Entry}
 use Rattle.desk_model.specs.declared.rows.LinkRow.{LinkRow}
 use Rattle.desk_model.specs.declared.rows.QueueRow.{QueueRow}
 use Rattle.desk_model.specs.declared.rows.RequestRow.{RequestRow}
@@ -15,7 +16,10 @@ use Rattle.desk_model.specs.declared.rows.WatchRole.TheVariants.{Requestor, Cc, 
 use Rattle.desk_model.specs.Desk.{Desk, Request, queue_at, request_at}
 use Rattle.desk_model.specs.Facts.{as_dependency, no_facts, seen_request_at}
 use Rattle.desk_model.specs.Links.{has_link}
+use Rattle.desk_model.specs.Readings.History.{is_comment}
 use Rattle.desk_model.specs.Watchers.{is_role}
+use Rattle.store_tables.specs.Contents.Entry.{moment_of}
+use Rattle.store_core.specs.Written.{last_of}
 
 -- the persons in a role, in the order of the watchers
 abbrev pub persons_in : WatchRole → List Watcher → List (List ℕ)
@@ -31,6 +35,11 @@ seen_request_of row watchers entry_count =
       admin_cc = persons_in AdminCc watchers;
       entry_count = entry_count;
     }
+
+-- when the last of some entries was made, or the last that is no comment
+abbrev pub last_told : Bool → List Entry → Option ℕ
+last_told comments entries =
+    option_map moment_of (last_of (filter (λ e. not (is_comment e.kind) || comments) entries))
 
 abbrev pub has_number : ℕ → Request → Bool
 has_number id r = r.row.id == id

@@ -1,5 +1,6 @@
 pub mod Ahead
 pub mod Applying
+pub mod Blocks
 pub mod Due
 pub mod Found
 pub mod Limits

@@ -54,9 +54,9 @@ link_dropped link c = fold drop_link c (option_to_list link)
 abbrev pub begun_on : List Entry → Option ℕ
 begun_on entries = option_map (λ e. e.id) (find (λ e. begins_stay e.kind) entries)
 
--- the last of some stays
-abbrev pub last_of : List Stay → Option Stay
-last_of stays = slice_get stays (length stays - 1)
+-- the last of some values
+abbrev pub last_of : {X : Type 0} → List X → Option X
+last_of xs = slice_get xs (length xs - 1)
 
 -- the stay of that number ends; none has the number 0
 abbrev pub stay_ended : ℕ → ℕ → ℕ → Contents → Contents

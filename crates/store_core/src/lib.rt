@@ -15,7 +15,10 @@
 //! - The lists (`queues`, `requests` and their like) are those of the desk, each in the order of its
 //!   key. `actors` is who made each entry, in no order.
 //! - `dated_requests` and `dated_requests_of` have each row with the due moment that the tables
-//!   keep. `requests_due_before` is ordered by due moment and number.
+//!   keep. `requests_due_before` is ordered by due moment and number. `dated_block` reads all rows
+//!   by blocks of 1,024, each after the last number of the one before (`BlockLemmas`).
+//! - `watchers_at` and `last_told` are of one request, by one statement each: its watchers, of whom
+//!   the requestors are those in that role (`requestors_among`), and when its last entry was made.
 //! - `rows_of_queue` and `rows_overdue` give such rows one at a time; those of a queue are read 64 at
 //!   once. A `RequestRows` may be dropped at any row. After a fault it always answers `Refused`.
 //! - `facts_for` is what a command sees of the desk (`facts_of`). Requests and entries are counted by
@@ -27,8 +30,9 @@
 //! Of other tables than the first n only this is said: what a fault and a read don't change.
 //!
 //! Of `specs/`, `Found`, `Due`, `Written` and `Applying` say how facts are put together, which due
-//! moments are kept and what a change makes of the rows; `Migrating`, `Rows`, `Ahead` and `Limits`
-//! speak of making tables and version 2, of rows one at a time, and of the limit on steps.
+//! moments are kept and what a change makes of the rows; `Migrating`, `Rows`, `Ahead`, `Blocks` and
+//! `Limits` speak of making tables and version 2, of rows one at a time and by blocks, and of the
+//! limit on steps.
 #![tactic(auto)]
 
 mod apply;

@@ -6,13 +6,16 @@ ghost use Rattle.store_tables.specs.Contents.{actors, history_at, request_rows, 
 ghost use Rattle.store_tables.specs.Contents.Link.{ends_at, starts_at};
 ghost use Rattle.store_tables.specs.Contents.Request.{is_filed_in};
 ghost use Rattle.store_tables.specs.Contents.Stay.{request_stay, stays};
-ghost use Rattle.store_tables.specs.Contents.Watcher.{is_of_person};
+ghost use Rattle.store_tables.specs.Contents.Watcher.{is_of_person, watches};
 ghost use Rattle.store_tables.specs.Dated.{ShowDatedCommitted};
 ghost use Rattle.store_tables.specs.Readings.{MismatchesInDated, MismatchesInEntries};
-ghost use Rattle.store_tables.specs.Readings.{MismatchesInLinks, MismatchesInRequests};
+ghost use Rattle.store_tables.specs.Readings.{MismatchesInLinks, MismatchesInMoments};
+ghost use Rattle.store_tables.specs.Readings.{MismatchesInRequests};
 ghost use Rattle.store_tables.specs.Readings.{MismatchesInStays, MismatchesInWatchers};
 ghost use Rattle.store_tables.specs.Readings.{TestsDated, TestsEntries, TestsLinks, TestsQueues};
 ghost use Rattle.store_tables.specs.Readings.{TestsRequests, TestsStays, TestsWatchers};
+ghost use Rattle.store_core.specs.Blocks.{block_after};
+ghost use Rattle.store_core.specs.Found.{last_told};
 ghost use Rattle.store_core.specs.Rows.{AreDueBefore, AreFiledIn, TellsDated, dated_rows};
 ghost use Rattle.store_core.specs.Seen.{state_of};
 
@@ -85,6 +88,25 @@ impl<S: Alter> Store<S> {
         ensures kept { LeavesTables (state_of S.Store self.old) (state_of S.Store self.new) }
     {
         dated::dated_requests(alloc, &mut self.tables)
+    }
+
+    /// The first 1,024 requests after that number, in the order of their numbers, each with the due
+    /// moment that the tables keep; where there are fewer, they are all that are left. `Mismatch`
+    /// where one of these rows is no request or its due moment is neither a minute nor absent,
+    /// `Refused` where the store or memory refuses it. The tables stay as they are.
+    pub fn dated_block(
+        &mut self,
+        alloc: Global,
+        after: u32,
+    ) -> Result<Vec<(RequestRow, Option<Minute>)>, StoreFault>
+        ensures listed { TellsDated (λ due desk xs.
+            xs.items ≡ block_after after (dated_rows due desk))
+            (state_of S.Store self.old) (state_of S.Store self.new) result }
+        ensures mismatch { MismatchesInDated
+            (state_of S.Store self.old) (state_of S.Store self.new) result }
+        ensures kept { LeavesTables (state_of S.Store self.old) (state_of S.Store self.new) }
+    {
+        dated::dated_block(alloc, &mut self.tables, after)
     }
 
     /// The requests of a queue, in the order of their numbers, each with the due moment that the
@@ -172,6 +194,19 @@ impl<S: Alter> Store<S> {
         watcher::watchers(alloc, &mut self.tables)
     }
 
+    /// The watchers of a request, in the order of role and person, none where there is no such
+    /// request. `Mismatch` where a row is no watcher, `Refused` where the store or memory refuses
+    /// it. The tables stay as they are.
+    pub fn watchers_at(&mut self, alloc: Global, id: u32) -> Result<Vec<Watcher>, StoreFault>
+        ensures listed { Tells (λ desk xs. xs.items ≡ filter (watches id) (watchers desk))
+            (state_of S.Store self.old) (state_of S.Store self.new) result }
+        ensures mismatch { MismatchesInWatchers
+            (state_of S.Store self.old) (state_of S.Store self.new) result }
+        ensures kept { LeavesTables (state_of S.Store self.old) (state_of S.Store self.new) }
+    {
+        watcher::watchers_of(alloc, &mut self.tables, id)
+    }
+
     /// The watchers who are that person, in the order of request and role. `Mismatch` where a row
     /// is no watcher, `Refused` where the store or memory refuses it. The tables stay as they are.
     pub fn watches_of(&mut self, alloc: Global, person: &str) -> Result<Vec<Watcher>, StoreFault>
@@ -196,6 +231,19 @@ impl<S: Alter> Store<S> {
         ensures kept { LeavesTables (state_of S.Store self.old) (state_of S.Store self.new) }
     {
         entry::entries_of(alloc, &mut self.tables, id)
+    }
+
+    /// When the last entry of a request was made, or the last that is no comment, none where there
+    /// is none. `Mismatch` where its row shows no minute, `Refused` where the store or memory
+    /// refuses it. The tables stay as they are.
+    pub fn last_told(&mut self, id: u32, comments: bool) -> Result<Option<Minute>, StoreFault>
+        ensures told { Tells (λ desk moment. moment ≡ last_told comments (history_at desk id))
+            (state_of S.Store self.old) (state_of S.Store self.new) result }
+        ensures mismatch { MismatchesInMoments
+            (state_of S.Store self.old) (state_of S.Store self.new) result }
+        ensures kept { LeavesTables (state_of S.Store self.old) (state_of S.Store self.new) }
+    {
+        entry::last_moment(&mut self.tables, id, comments)
     }
 
     /// The stays of a request, in order, none where there is no such request. `Mismatch` where a

@@ -16,7 +16,7 @@ returns-in_ok-seen_request-in-Some g c =
     ∙ some_seen desk c.args.id _ (rw (c.in-Some.is, of.same, rows_dated of.due desk) at it.0.0)
     of.is _ (rw of.same at it.1) _ (rw of.same at it.0.1))
     (then (then c.in_ok-request_numbered.ensures c.in_ok-entry_count-in-Some.ensures)
-    c.in_ok-watchers-in-Some.ensures)
+    c.in_ok-watchers-in-Some.ensures.read)
 
 pub returns-in_err-entry_count-in-Some : goal.returns-in_err-entry_count-in-Some
 returns-in_err-entry_count-in-Some g c =
@@ -26,4 +26,4 @@ returns-in_err-entry_count-in-Some g c =
 pub returns-in_err-watchers-in-Some : goal.returns-in_err-watchers-in-Some
 returns-in_err-watchers-in-Some g c =
     failed_at (then (then c.in_ok-request_numbered.ensures c.in_ok-entry_count-in-Some.ensures)
-    c.in_err-watchers-in-Some.ensures) (search rules)
+    c.in_err-watchers-in-Some.ensures.read) (search rules)

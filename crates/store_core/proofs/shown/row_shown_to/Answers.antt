@@ -22,9 +22,9 @@ returns-in_ok-watchers-in-Some g c =
     c.args.person.now)
     ∙ row_kept c.args.settings.now c.args.person.now desk c.args.id of.is _
     (found_row c.args.id desk.requests (Some c.in-Some.row) read))
-    (then c.in_ok-request_numbered.ensures c.in_ok-watchers-in-Some.ensures)
+    (then c.in_ok-request_numbered.ensures c.in_ok-watchers-in-Some.ensures.read)
 
 pub returns-in_err-watchers-in-Some : goal.returns-in_err-watchers-in-Some
 returns-in_err-watchers-in-Some g c =
-    failed_at (then c.in_ok-request_numbered.ensures c.in_err-watchers-in-Some.ensures)
+    failed_at (then c.in_ok-request_numbered.ensures c.in_err-watchers-in-Some.ensures.read)
     (search rules)
