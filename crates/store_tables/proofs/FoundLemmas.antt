@@ -45,9 +45,9 @@ last_read key part view Reads back xs (row ∷ rows) (Some y) (inl h) read =
 last_read key part view Reads back xs rows last show read = absurd (grind arith)
 
 -- the query for a part of the last by a number that each value has
-pub last_part : {K X Y Same : Type 0} (t : TableOf K X) (key : X → ℕ) (part : X → Y) (view : X → Row)
-    {ReadsRow : Row → Y → Type 0} {IsValue : Row → Type 0} {text : List ℕ} {params : Row}
-    {names : List (List ℕ)} {test terms : List Term} {at : Term} {old new : State}
+pub last_part : {K X Y Same : Type 0} (t : TableOf K X) (key : X → ℕ) (part : X → Y)
+    (view : X → Row) {ReadsRow : Row → Y → Type 0} {IsValue : Row → Type 0} {text : List ℕ}
+    {params : Row} {names : List (List ℕ)} {test terms : List Term} {at : Term} {old new : State}
     {r : Result (Option Y) StoreFault}
     → Asked Same ReadsRow IsValue option_to_list text params old new r
     → Selects text (last_of t.tree test terms at) names
@@ -61,8 +61,8 @@ pub last_part : {K X Y Same : Type 0} (t : TableOf K X) (key : X → ℕ) (part 
     → (passing : X → Bool) → ((k : K) → passes test params (t.row k) ≡ passing (t.value k))
     → Found (λ c last. IsLast key part (filter passing (t.list c)) last) t.tree terms IsValue old
     new r
-last_part t key part view {ReadsRow} {text = text} {params} {test = test} {terms} {at} {old} {new} {r}
-    asked means back same shown orders passing tests = record {
+last_part t key part view {ReadsRow} {text = text} {params} {test = test} {terms} {at} {old} {new}
+    {r} asked means back same shown orders passing tests = record {
       told = λ c holding now. if_ok r (λ last it.
           let tables = tables_shown c text params old new it.0 asked.leaves.spares.clean holding now
           it.1 in

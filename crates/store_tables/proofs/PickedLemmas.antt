@@ -110,7 +110,8 @@ picks_last tree test project at params db rows a =
 pub last_by : {names : List (List ℕ)} (sql : List ℕ) (params : Row) (old new : State)
     (has : old.now.schema ≡ desk_schema) (tree : ℕ) (test project : List Term) (at : Term)
     → Selects sql (last_of tree test project at) names → (rows : List Row)
-    → Shown sql params old new rows → PicksLast tree test project at params (old.now.trees tree) rows
+    → Shown sql params old new rows
+    → PicksLast tree test project at params (old.now.trees tree) rows
 last_by sql params old new has tree test project at is rows h =
     let got = reads_as sql params old new desk_schema has _ is.is is.plain is.unlisted rows h in
     rw (bare old.now.trees tree) at

@@ -201,8 +201,8 @@ module _ {K X : Type 0} {row : K → Row} {value : K → X} {tree : ℕ} {test p
         let last = last_of tree test project at in
         let put = λ (k : K). output last (params ∷ row k ∷ []) in
         let sorted = sorted_as put value (output_cmp last) (λ a b. nat_cmp (key b) (key a)) orders
-        back.0 (rw (back.2, map-map (λ r. output last (params ∷ r ∷ [])) row back.0) at picks.sorted)
-        in
+        back.0 (rw (back.2, map-map (λ r. output last (params ∷ r ∷ [])) row back.0) at
+        picks.sorted) in
         first_of back.0 (picks.shown ∙ ap (λ rs. take 1 (map (shows project params) rs)) back.2)
         (IsPermutation-trans _ _ _ (IsPermutation-sym _ _ left.same)
         (IsPermutation-map value _ _ back.1)) sorted

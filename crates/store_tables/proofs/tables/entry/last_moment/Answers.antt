@@ -25,8 +25,8 @@ select_one-requires-else-comments g c schema k found =
 pub returns-then-comments : goal.returns-then-comments
 unfolding understood everything
 returns-then-comments g c = rw c.if-comments.true
-    (answered moment_table (last_part entry_table place_of moment_of (λ e. count_value e.moment ∷ [])
-    (rw c.number.ensures.bound at c.select_one.ensures)
+    (answered moment_table (last_part entry_table place_of moment_of
+    (λ e. count_value e.moment ∷ []) (rw c.number.ensures.bound at c.select_one.ensures)
     (record { is = refl; plain = (refl, refl); unlisted = refl; none = λ s n. refl })
     (λ a b. count_back a.moment b) (λ row. refl) (λ k. refl) (λ a b. simp ranked)
     (is_told_of true c.args.id) (λ k. simp (equal_numbers, and_true, or-true))))
@@ -34,7 +34,8 @@ returns-then-comments g c = rw c.if-comments.true
 pub returns-else-comments : goal.returns-else-comments
 unfolding understood everything
 returns-else-comments g c = rw c.if-comments.false
-    (answered moment_table (last_part entry_table place_of moment_of (λ e. count_value e.moment ∷ [])
+    (answered moment_table (last_part entry_table place_of moment_of
+    (λ e. count_value e.moment ∷ [])
     (rw c.number-else-comments.ensures.bound at c.select_one-else-comments.ensures)
     (record { is = refl; plain = (refl, refl); unlisted = refl; none = λ s n. refl })
     (λ a b. count_back a.moment b) (λ row. refl) (λ k. refl) (λ a b. simp ranked)

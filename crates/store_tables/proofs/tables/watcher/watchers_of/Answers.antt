@@ -15,7 +15,9 @@ watcher_rows-requires g c schema k found = none_given schema _ k found (λ s n. 
 
 pub returns : goal.returns
 unfolding understood everything
-returns g c = answered watcher_table (lists watcher_table (told_of (rw c.number.ensures.bound at c.watcher_rows.ensures.read) c.watcher_rows.ensures.leaves) role_order
+returns g c = answered watcher_table (lists watcher_table
+    (told_of (rw c.number.ensures.bound at c.watcher_rows.ensures.read)
+    c.watcher_rows.ensures.leaves) role_order
     (record { is = refl; plain = (refl, refl); unlisted = refl; none = λ s n. refl })
     (watches c.args.id) (λ k. simp (equal_numbers, and_true))
     (λ a b. simp ranked))

@@ -18,6 +18,7 @@ dated_rows-requires g c schema k found = none_given schema _ k found (λ s n. re
 pub returns : goal.returns
 unfolding understood everything
 returns g c = answered dated_table (lists_first dated_table 1024
-    (told_of (rw c.number.ensures.bound at c.dated_rows.ensures.read) c.dated_rows.ensures.leaves) id_order
+    (told_of (rw c.number.ensures.bound at c.dated_rows.ensures.read)
+    c.dated_rows.ensures.leaves) id_order
     (record { is = refl; plain = (refl, refl); unlisted = refl; none = λ s n. refl })
     (comes_after c.args.after) (λ k. simp (number_after, and_true)) (λ a b. simp ranked))
