@@ -13,6 +13,7 @@ use Rattle.hours_core.specs.Hours.{Hours, are_intervals, are_years, calendar_fau
 use Rattle.hours_core.specs.Hours.{intervals_on, is_day, is_open, is_within}
 use Rattle.hours_core.specs.Least.{least, least_of_next}
 use Rattle.hours_core.specs.Limit.{limit_due, minutes_after, plain_due}
+use Rattle.hours_core.specs.Misplaced.{end_before, misplaced_interval, misplacement_after}
 use Rattle.hours_core.specs.Moment.{end_minute, first_minute, is_due_moment, is_moment}
 use Rattle.hours_core.specs.Pauses.{are_in_order, is_paused}
 use Rattle.hours_core.specs.Probes.{at_least, halvings, most_probes}
@@ -24,6 +25,7 @@ use Rattle.hours_core.specs.declared.fault.HoursFault.TheVariants.{BadInterval, 
 use Rattle.hours_core.specs.declared.fault.HoursFault.TheVariants.{TooManyChanges, BadRule}
 use Rattle.hours_core.specs.declared.level.Level.{Level}
 use Rattle.hours_core.specs.declared.level.Limit.TheVariants.{RealMinutes, BusinessMinutes}
+use Rattle.hours_core.specs.declared.misplaced.Misplacement.TheVariants.{Empty, Early, Late, Fifth}
 use Rattle.hours_core.specs.declared.spans.Span.{Span}
 use Rattle.hours_core.specs.declared.stay.Stay.{Stay}
 
@@ -846,6 +848,47 @@ one_year_alone = refl
 
 years_that_end_before_they_begin : are_years (pos 2027, pos 2026) ≡ false
 years_that_end_before_they_begin = refl
+
+-- Misplaced.antt
+
+no_minute_is_first : misplacement_after 4 600 (540, 540) ≡ Some Empty
+no_minute_is_first = refl
+
+early_is_before_late : misplacement_after 4 541 (540, 1441) ≡ Some Early
+early_is_before_late = refl
+
+late_is_before_fifth : misplacement_after 4 540 (540, 1441) ≡ Some Late
+late_is_before_fifth = refl
+
+fifth_interval : misplacement_after 4 540 (540, 1440) ≡ Some Fifth
+fifth_interval = refl
+
+fourth_interval : misplacement_after 3 540 (540, 1440) ≡ None
+fourth_interval = refl
+
+second_of_two_overlaps :
+    misplaced_interval ([] ∷ ((540, 720) ∷ (719, 1080) ∷ []) ∷ [])
+    ≡ Some (record { day = 1; index = 1; why = Early })
+second_of_two_overlaps = refl
+
+first_day_is_told :
+    misplaced_interval (((600, 540) ∷ []) ∷ ((540, 540) ∷ []) ∷ [])
+    ≡ Some (record { day = 0; index = 0; why = Empty })
+first_day_is_told = refl
+
+fifth_of_a_day :
+    misplaced_interval (((0, 1) ∷ (1, 2) ∷ (2, 3) ∷ (3, 4) ∷ (4, 1440) ∷ []) ∷ [])
+    ≡ Some (record { day = 0; index = 4; why = Fifth })
+fifth_of_a_day = refl
+
+no_interval_is_misplaced : misplaced_interval (((0, 1) ∷ (1, 1440) ∷ []) ∷ [] ∷ []) ≡ None
+no_interval_is_misplaced = refl
+
+first_ends_before_the_second : end_before 1 ((540, 720) ∷ (719, 1080) ∷ []) ≡ 720
+first_ends_before_the_second = refl
+
+day_begins_before_the_first : end_before 0 ((540, 720) ∷ (719, 1080) ∷ []) ≡ 0
+day_begins_before_the_first = refl
 
 -- Spans.antt, Calendar.antt, Counted.antt
 

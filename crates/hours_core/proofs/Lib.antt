@@ -12,5 +12,6 @@ pub mod SpanLemmas
 pub mod StretchLemmas
 pub mod TextLemmas
 pub mod WalkLemmas
+pub mod WeekLemmas
 pub mod YearLemmas
 pub mod ZoneLemmas

@@ -1,6 +1,6 @@
 -- The changes that a rule's offsets come to.
 use Rattle.std.proofs.Common.{◌≡◌, ℕ, zero, suc, Bool, true, false, ◌&&◌, List, [], ◌∷◌, ◌++◌}
-use Rattle.std.proofs.Common.{◌+◌, ◌-◌, ◌*◌, ◌<◌, ◌≤◌, inl, inr, refl, sym, ap, ◌∙◌, arith, subst}
+use Rattle.std.proofs.Common.{◌+◌, ◌-◌, ◌<◌, ◌≤◌, inl, inr, refl, sym, ap, ◌∙◌, arith, subst}
 use Rattle.std.proofs.Common.{ℤ, pos, ◌≤ℤ◌, ◌*ℤ◌, ◌+ℤ◌, int_le, if◌then◌else◌, length, nat_lt, not}
 use Rattle.std.proofs.Common.{◌≢◌, Ok, Err, Some, None, Result, IfOk, IfErr}
 use Rattle.std.proofs.Math.Path.{fun_ext}
@@ -14,12 +14,10 @@ use Rattle.std.proofs.lemmas.Float.{T_from_true}
 use Rattle.std.proofs.lemmas.Bool.Decides.{nat_tests}
 use Rattle.jiff.specs.Placed.{IsPosixZone}
 use Rattle.jiff.specs.Words.{read_whole, offset_at as jiff_offset}
-use Rattle.days.specs.Dates.{first_day_of}
 use Rattle.days.proofs.DayLemmas.{first_days_rise, first_day_range}
 use Rattle.zone_rules.specs.Rule.{GoesByJiff, TimeZone, TzText, nanos}
 use Rattle.zone_rules.proofs.TextLemmas.{reads_none}
 use Rattle.hours_core.specs.Hours.{is_year, are_years}
-use Rattle.hours_core.specs.Moment.{first_minute, end_minute}
 use Rattle.hours_core.specs.Rules.{zone_in, zone_by, first_asked, end_asked}
 use Rattle.hours_core.specs.Rules.{IsAsked, FollowsJiff, FollowsRule, seconds_of, zone_like}
 use Rattle.hours_core.specs.Zone.{Offsets, offset_at, is_offset}

@@ -1,7 +1,6 @@
 -- The minutes at which no local day lies in a calendar's years.
-use Rattle.std.proofs.Common.{◌≡◌, ℕ, Bool, true, false, ◌&&◌, List, ◌+◌, ◌-◌, ◌*◌, ◌/◌, ◌<◌, ◌≤◌}
+use Rattle.std.proofs.Common.{◌≡◌, ℕ, Bool, true, false, ◌&&◌, ◌+◌, ◌/◌, ◌<◌, ◌≤◌}
 use Rattle.std.proofs.Common.{◌⊎◌, inl, inr, refl, arith, ℤ, pos, ◌+ℤ◌, ◌<ℤ◌, ◌≤ℤ◌, int_le}
-use Rattle.std.proofs.Common.{unsigned_abs}
 use Rattle.std.specs.List.{list_all}
 use Rattle.std.proofs.lemmas.Int.{ints}
 use Rattle.days.specs.Dates.{date_of_day, first_day_of}

@@ -6,6 +6,7 @@ pub mod Fault
 pub mod Hours
 pub mod Least
 pub mod Limit
+pub mod Misplaced
 pub mod Moment
 pub mod Pauses
 pub mod Probes

@@ -4,14 +4,12 @@ ghost use Rattle.std.specs.Prelude.{◌≡◌, ◌≤◌, true};
 ghost use Rattle.std.specs.List.{list_all};
 ghost use Rattle.hours_core.specs.Hours as spec;
 
+use crate::misplaced::misplaced_interval;
 use text_core::Sequence;
 
 /// The intervals of a day in order, from their start to before their end, in minutes of the local
 /// day.
 pub type Intervals = Sequence<(u16, u16)>;
-
-/// The most intervals of a day.
-const MAX_INTERVALS: usize = 4;
 
 /// The minutes of a day.
 pub const DAY: u32 = 1440;
@@ -20,27 +18,7 @@ pub const DAY: u32 = 1440;
 pub fn is_week(week: &[Intervals]) -> bool
     ensures { result ≡ list_all spec.is_day week.now }
 {
-    week.iter().all(|intervals| is_day(intervals.as_slice()))
-}
-
-fn is_day(intervals: &[(u16, u16)]) -> bool
-    ensures { result ≡ spec.is_day intervals.now }
-{
-    intervals.len() <= MAX_INTERVALS && are_intervals(intervals)
-}
-
-/// Whether the intervals are in order and within the day, and none is empty.
-fn are_intervals(intervals: &[(u16, u16)]) -> bool
-    ensures { result ≡ spec.are_intervals 0 intervals.now }
-{
-    let mut earliest = 0;
-    for interval in intervals {
-        if !(earliest <= interval.0 && interval.0 < interval.1 && interval.1 <= 1440) {
-            return false;
-        }
-        earliest = interval.1;
-    }
-    true
+    misplaced_interval(week).is_none()
 }
 
 /// The intervals of a local day, by its weekday.

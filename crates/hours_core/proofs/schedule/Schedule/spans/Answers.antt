@@ -1,4 +1,4 @@
-use Rattle.std.proofs.Common.{◌≡◌, ◌/◌, false, inl, inr, subst, arith}
+use Rattle.std.proofs.Common.{◌≡◌, ◌/◌, false, inl, inr, subst}
 use Rattle.hours_core.specs.Date.{date_of_day}
 use Rattle.hours_core.specs.Hours.{Hours, is_between, is_open}
 use Rattle.hours_core.specs.Zone.{local_minute}

@@ -1,5 +1,5 @@
 use Rattle.std.proofs.Common.{◌≤◌, ◌-◌}
-use Rattle.hours_core.specs.Moment.{first_minute, end_minute}
+use Rattle.hours_core.specs.Moment.{first_minute}
 use Rattle.hours_core.specs.Schedule.{HoldBefore}
 use Rattle.hours_core.proofs.schedule.Schedule.spans.Given as goal
 

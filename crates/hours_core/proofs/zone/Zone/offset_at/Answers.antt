@@ -1,5 +1,4 @@
-use Rattle.std.proofs.Common.{◌≡◌, rules}
-use Rattle.hours_core.specs.Zone.{offset_at}
+use Rattle.std.proofs.Common.{rules}
 use Rattle.hours_core.proofs.ZoneLemmas.{last_change}
 use Rattle.hours_core.proofs.zone.Zone.offset_at.Goals as goal
 
