@@ -1,4 +1,5 @@
 mod Examples
+pub mod Items
 pub mod Laws
 pub mod Places
 pub mod Prefixes

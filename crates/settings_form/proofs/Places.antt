@@ -3,7 +3,7 @@ use Rattle.std.proofs.Common.{◌≡◌, ℕ, ◌+◌, Bool, true, false, ◌&&�
 use Rattle.std.proofs.Common.{Option, Some, None, is_some, refl, sym, ◌∙◌, ap}
 use Rattle.std.specs.Prelude.{codes, if◌then◌else◌}
 use Rattle.std.specs.Option.{option_map, option_or}
-use Rattle.toml.specs.Data.{Data, array, table, string, integer, boolean, float, datetime}
+use Rattle.toml.specs.Data.{Data, array, table}
 use Rattle.toml.specs.Data.{Items, no_items, item, Members, no_members, member}
 use Rattle.settings_form.specs.declared.form.Place.{Place}
 use Rattle.settings_form.specs.declared.form.Place.TheVariants.{Top}

@@ -1,7 +1,7 @@
 -- Whether a value is of a kind, no table inside it looked into.
 use Rattle.std.specs.Prelude.{ℕ, Bool, true, false, not, ◌&&◌, ◌||◌}
 use Rattle.std.specs.Prelude.{List, [], ◌∷◌, Option, Some, None, is_none}
-use Rattle.std.specs.Prelude.{codes, is_some}
+use Rattle.std.specs.Prelude.{codes, is_some, if◌then◌else◌}
 use Rattle.toml.specs.Data.{Data, string, integer, boolean, array, table, Items}
 use Rattle.toml.specs.Data.{no_items, item, Members, no_members, member, get_member}
 use Rattle.settings_form.specs.declared.form.Place.{Place}
@@ -54,6 +54,11 @@ is_item (Table p) d = is_table d
 abbrev pub are_items : Item → Items → Bool
 are_items i no_items = true
 are_items i (item d ds) = is_item i d && are_items i ds
+
+-- the first of these values that is no such item
+abbrev pub other_item : Item → Items → Option Data
+other_item i no_items = None
+other_item i (item d ds) = if is_item i d then other_item i ds else Some d
 
 abbrev pub is_list_of : Item → Data → Bool
 is_list_of i (array ds) = are_items i ds

@@ -84,12 +84,19 @@ fn is_item(item: Item, value: &Value) -> bool
 fn are_items(item: Item, list: &Array) -> bool
     ensures { result ≡ kinds.are_items item (array_view list.now) }
 {
+    other_item(item, list).is_none()
+}
+
+/// The first value of a list that is no such item.
+pub fn other_item(item: Item, list: &Array) -> Option<&Value>
+    ensures { option_map (λ v. view v.now) result ≡ kinds.other_item item (array_view list.now) }
+{
     for value in list {
         if !is_item(item, value) {
-            return false;
+            return Some(value);
         }
     }
-    true
+    None
 }
 
 /// Whether the value is of the kind, no table inside it looked into.

@@ -1,6 +1,6 @@
 -- The persons, groups, grants and tokens of a settings text.
 use Rattle.std.specs.Prelude.{ℕ, ◌||◌, Bool, List, [], ◌∷◌, ◌++◌, map}
-use Rattle.std.specs.Prelude.{Option, Some, None, is_some, unwrap_or, codes, if◌then◌else◌}
+use Rattle.std.specs.Prelude.{Option, None, is_some, unwrap_or, codes, if◌then◌else◌}
 use Rattle.std.specs.Option.{option_map_or}
 use Rattle.toml.specs.Data.{Items, no_items, item, Members, no_members, member, get_member, as_str}
 use Rattle.rights_core.specs.Right.{super_user}
