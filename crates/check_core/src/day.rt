@@ -30,24 +30,17 @@ impl fmt::Display for Reason {
     }
 }
 
-/// An interval of a day, its number from 1, and why it can't stand there.
+/// The text of an interval, and why it can't stand there.
 #[derive(Clone, Copy)]
 pub struct BadInterval<'t> {
-    day: &'static str,
-    number: usize,
     text: &'t str,
     reason: Reason,
 }
 
 impl fmt::Display for BadInterval<'_> {
     fn fmt<W: fmt::Write>(&self, f: &mut fmt::Formatter<W>) -> fmt::Result {
-        let BadInterval {
-            day,
-            number,
-            text,
-            reason,
-        } = *self;
-        write!(f, "interval {number} of `{day}`, \"{text}\": {reason}")
+        let BadInterval { text, reason } = *self;
+        write!(f, "\"{text}\": {reason}")
     }
 }
 
@@ -55,7 +48,7 @@ impl fmt::Display for BadInterval<'_> {
 pub fn bad_interval(calendar: &Table) -> Option<BadInterval<'_>> {
     for day in &DAYS {
         if let Some(list) = array_at(calendar, *day) {
-            let found = bad_of(*day, list);
+            let found = bad_of(list);
             if found.is_some() {
                 return found;
             }
@@ -65,7 +58,7 @@ pub fn bad_interval(calendar: &Table) -> Option<BadInterval<'_>> {
 }
 
 /// The first interval of a day that isn't in order.
-fn bad_of<'t>(day: &'static str, list: &'t Array) -> Option<BadInterval<'t>> {
+fn bad_of(list: &Array) -> Option<BadInterval<'_>> {
     let mut number = 0;
     let mut earliest = 0;
     for value in list {
@@ -73,12 +66,7 @@ fn bad_of<'t>(day: &'static str, list: &'t Array) -> Option<BadInterval<'t>> {
         if let Some(text) = value.as_str() {
             let (begin, end) = interval_of(text);
             if let Some(reason) = reason_of(number, earliest, begin, end) {
-                return Some(BadInterval {
-                    day,
-                    number,
-                    text,
-                    reason,
-                });
+                return Some(BadInterval { text, reason });
             }
             earliest = end;
         }

@@ -57,9 +57,8 @@ fn interval_at<'t>(
     place: &FaultPlace<'t>,
 ) -> Option<BadInterval<'t>> {
     match (fault, place) {
-        (SettingsFault::Hours(HoursFault::BadInterval), FaultPlace::Calendar(name)) => bad_interval(
-            named(table, "calendar", *name)?,
-        ),
+        (SettingsFault::Hours(HoursFault::BadInterval), FaultPlace::Interval(name, _)) =>
+            bad_interval(named(table, "calendar", *name)?),
         _ => None,
     }
 }

@@ -33,7 +33,10 @@ impl fmt::Display for Told<'_> {
             table,
             interval,
         } = *self;
-        write!(f, "{place}: ")?;
+        match place {
+            FaultPlace::Interval(_, _) => write!(f, "{place}, ")?,
+            _ => write!(f, "{place}: ")?,
+        }
         match place {
             FaultPlace::Key(found) => write!(
                 f,
@@ -44,13 +47,15 @@ impl fmt::Display for Told<'_> {
                     table,
                 }
             ),
-            FaultPlace::Calendar(_) | FaultPlace::Lifecycle(_) | FaultPlace::People =>
-                match interval {
-                    Some(interval) => write!(f, "{interval}"),
-                    None => write!(f, "{}", Inner { fault }),
-                },
-            FaultPlace::PersonTwice(name) => write!(f, "{}", Twice { name, table }),
-            FaultPlace::PersonAndGroup(name) => write!(f, "{}", Shared { name, table }),
+            FaultPlace::Interval(_, _)
+            | FaultPlace::Calendar(_)
+            | FaultPlace::Lifecycle(_)
+            | FaultPlace::People => match interval {
+                Some(interval) => write!(f, "{interval}"),
+                None => write!(f, "{}", Inner { fault }),
+            },
+            FaultPlace::PersonTwice(name, _, _) => write!(f, "{}", Twice { name, table }),
+            FaultPlace::PersonAndGroup(name, _) => write!(f, "{}", Shared { name, table }),
             FaultPlace::Limit(level, key) => write!(
                 f,
                 "{}",
