@@ -168,13 +168,30 @@ def bad_hours(table):
         return True
     return (any(abs(offset) >= 1440 for offset in offsets) or len(changes) > 400
             or any(not 0 <= minute <= last for minute in minutes) or minutes != sorted(set(minutes))
-            or not 2000 <= years[0] <= years[1] <= 2099 or any(bad_day(table.get(day, [])) for day in DAYS))
+            or not 2000 <= years[0] <= years[1] <= 2099 or misplaced(table) is not None)
 
 
-def bad_day(intervals):
-    times = [tuple(map(minutes_of, it.split("-"))) for it in intervals]
-    return (len(times) > 4 or any(until <= begun for begun, until in times)
-            or any(later[0] < earlier[1] for earlier, later in zip(times, times[1:])))
+def misplaced(calendar):
+    """The first interval of a calendar that can't stand where it does: its day, its number and its text."""
+    for day in DAYS:
+        earliest = 0
+        for number, interval in enumerate(calendar.get(day, []), 1):
+            begun, until = map(minutes_of, interval.split("-"))
+            if number > 4 or until <= begun or begun < earliest:
+                return day, number, interval
+            earliest = until
+    return None
+
+
+def misplaced_first(table):
+    """The name of the first calendar with a fault, and its interval that can't stand where it does."""
+    name = next(it for it in in_order(table["calendar"]) if bad_hours(table["calendar"][it]))
+    return name, *misplaced(table["calendar"][name])
+
+
+def bad_interval(table):
+    name, day, number, _ = misplaced_first(table)
+    return f"[calendar.{name}]: interval {number} of `{day}`"
 
 
 def bad_lifecycle(table):
@@ -277,7 +294,7 @@ def first_named(table, key, is_bad):
 
 
 PLACES = {
-    "Hours": lambda table: first_named(table, "calendar", bad_hours),
+    "Hours": lambda table: first_named(table, "calendar", bad_hours), "BadInterval": bad_interval,
     "Lifecycle": lambda table: first_named(table, "lifecycle", bad_lifecycle),
     "BadName": misnamed, "Repeated": repeated,
     "UnknownMember": unknown_member, "UnknownSubject": unknown_subject,
@@ -287,7 +304,7 @@ PLACES = {
 def place_of(text, line):
     """The place of the fault that the line tells, as `7 Rights 1 BadName`; None where it has none."""
     words = line.split(" ")
-    fault = words[3] if words[1] == "Rights" else words[1]
+    fault = words[3] if words[1] == "Rights" or words[3:] == ["BadInterval"] else words[1]
     if fault == "NotToml":
         return None
     table = tomllib.loads(text)
@@ -327,17 +344,8 @@ def told_of_kind(table):
 
 
 def told_of_interval(table):
-    """The first interval of the first calendar with a fault that is out of order, and its day."""
-    calendar = next(table["calendar"][name] for name in in_order(table["calendar"])
-                    if bad_hours(table["calendar"][name]))
-    for day in DAYS:
-        earliest = 0
-        for number, interval in enumerate(calendar.get(day, []), 1):
-            begun, until = map(minutes_of, interval.split("-"))
-            if number > 4 or until <= begun or begun < earliest:
-                return f": interval {number} of `{day}`, \"{interval}\": "
-            earliest = until
-    return None
+    """The text of the first interval that can't stand where it does."""
+    return f', "{misplaced_first(table)[3]}": '
 
 
 def told_twice(table):

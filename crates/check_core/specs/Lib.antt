@@ -1,10 +1,8 @@
 pub mod BadRows
 pub mod Columns
 pub mod Files
-pub mod Inside
 pub mod Rows
 pub mod Tables
 pub mod Told
-pub mod Typed
 pub mod Weak
 pub mod Words

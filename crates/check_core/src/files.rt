@@ -3,11 +3,11 @@
 ghost use Rattle.std.specs.Prelude.{◌≡◌, ◌≢◌, [], IfOk, false, string_bytes};
 ghost use Rattle.check_core.specs.Files.{IsFinding, IsOfTables, IsWarnedOf};
 
-use crate::text::settings_told;
 use crate::told::told_of;
 use crate::weak::warnings;
 use settings_core::{Settings, SettingsFault};
 use settings_places::reading::read_telling;
+use settings_words::text::settings_told;
 use sqlite::Connection;
 use std::alloc::{AllocError, Global};
 use std::fs::File;

@@ -1,6 +1,6 @@
 -- A limit that is out of its bounds is found just where there is one.
 use Rattle.std.proofs.Common.{◌≡◌, ℕ, Bool, true, false, not, ◌&&◌, List, Option, Some, None}
-use Rattle.std.proofs.Common.{codes, is_some, refl, ap, ◌∙◌, sym, if◌then◌else◌}
+use Rattle.std.proofs.Common.{codes, is_some, refl, ◌∙◌, sym, if◌then◌else◌}
 use Rattle.std.specs.Option.{option_map, option_or}
 use Rattle.toml.specs.Data.{Members, no_members, member}
 use Rattle.rights_core.proofs.Failing.{some_mapped}

@@ -32,7 +32,7 @@ use Rattle.settings_core.specs.Names.{knows_calendars, knows_ignored, knows_pers
 use Rattle.settings_core.specs.Reading.{count_at, fault_of, has_limits}
 use Rattle.settings_core.specs.Settings.{calendar_named, entry_limit, level_named, lifecycle_named}
 use Rattle.settings_core.specs.Settings.{knows, person_of_token, request_limit, zone_named}
-use Rattle.settings_core.specs.Stated.{fault_in, with_standard}
+use Rattle.settings_core.specs.Stated.{bad_in, fault_in, with_standard}
 use Rattle.settings_core.specs.Tokens.{is_token, person_under}
 use Rattle.settings_core.specs.declared.fault.SettingsFault.{SettingsFault}
 use Rattle.settings_core.specs.declared.fault.SettingsFault.TheVariants.{NotToml, UnknownKey}
@@ -350,6 +350,11 @@ standard_that_is_stated :
     ≡ record { name = codes "default"; value = 1 } ∷ []
 standard_that_is_stated = refl
 
+first_table_that_is_bad :
+    bad_in (λ ms. Some BadLimit) two_tables
+    ≡ Some (record { name = codes "a"; table = no_members; fault = BadLimit })
+first_table_that_is_bad = refl
+
 fault_of_the_first_table : fault_in (λ ms. Some BadLimit) two_tables ≡ Some BadLimit
 fault_of_the_first_table = refl
 
@@ -362,6 +367,12 @@ fault_of_the_second_table :
     (member (codes "a") (table two_tables) (member (codes "b") (table no_members) no_members))
     ≡ Some (Hours in_hours.BadYears)
 fault_of_the_second_table = refl
+
+second_table_that_is_bad :
+    bad_in fault_if_empty
+    (member (codes "a") (table two_tables) (member (codes "b") (table no_members) no_members))
+    ≡ Some (record { name = codes "b"; table = no_members; fault = Hours in_hours.BadYears })
+second_table_that_is_bad = refl
 
 no_table_has_no_fault : fault_in (λ ms. Some BadLimit) no_members ≡ None
 no_table_has_no_fault = refl

@@ -1,14 +1,19 @@
 -- Values under their names.
 use Rattle.std.proofs.Common.{◌≡◌, ℕ, Bool, true, false, cond, List, [], ◌∷◌, ◌++◌}
-use Rattle.std.proofs.Common.{Option, Some, None, find, refl, sym, subst, ap, append-nil}
+use Rattle.std.proofs.Common.{Option, Some, None, Result, Ok, Err, find, refl, sym, subst, ap, append-nil}
 use Rattle.std.proofs.Common.{if◌then◌else◌}
-use Rattle.std.specs.Option.{option_map}
+use Rattle.std.specs.Option.{option_map, option_or}
+use Rattle.std.specs.Result.{IfErr}
 use Rattle.std.specs.Str.{bytes_eq}
+use Rattle.toml.specs.Data.{Members}
 use Rattle.hours_core.specs.Hours.{Hours}
 use Rattle.settings_core.specs.Calendars.{HasHoursIfAny, HasOpening, HaveHours}
 use Rattle.settings_core.specs.Named.{under}
-use Rattle.settings_core.specs.Stated.{Have}
+use Rattle.settings_core.specs.Stated.{BadTable, Have, IsFirstBad, bad_of}
 use Rattle.settings_core.specs.declared.calendars.Opening.{Opening}
+use Rattle.settings_core.specs.declared.fault.SettingsFault.{SettingsFault}
+use Rattle.settings_core.specs.declared.stated.StatedFault.{StatedFault}
+use Rattle.settings_core.specs.declared.stated.StatedFault.TheVariants as stated_as
 use Rattle.settings_core.specs.declared.named.Named.{Named}
 
 -- one more at the end
@@ -21,6 +26,23 @@ one_more has [] (x ∷ ps) v p before name it = absurd before
 one_more has (x ∷ vs) [] v p before name it = absurd before
 one_more has (x ∷ vs) (y ∷ ps) v p before name it =
     (before.0, before.1, one_more has vs ps v p before.2 name it)
+
+first_or : (own rest : Option BadTable) (e : StatedFault) → IsFirstBad own e
+    → IsFirstBad (option_or own rest) e
+first_or (Some bad) rest e is = is
+first_or None rest (stated_as.Table bad) is = absurd (cc)
+first_or None rest stated_as.NoMemory is = tt
+
+-- a table that comes before the others is the first that has a fault
+pub first_here : {X : Type 0} (fault_of : Members → Option SettingsFault) (name key : List ℕ)
+    (table : Members) (rest all : Option BadTable) (r : Result X StatedFault)
+    → name ≡ key → option_or (bad_of fault_of key table) rest ≡ all
+    → IfErr r (IsFirstBad (bad_of fault_of name table)) → IfErr r (IsFirstBad all)
+first_here fault_of name key table rest all (Ok x) same whole is = tt
+first_here fault_of name key table rest all (Err e) same whole is =
+    let P : List ℕ → Type 0 = λ n. IsFirstBad (bad_of fault_of n table) e in
+    let Q : Option BadTable → Type 0 = λ o. IsFirstBad o e in
+    subst Q whole (first_or (bad_of fault_of key table) rest e (subst P same is))
 
 -- with none more, where there is one of the name
 pub none_more : {V P : Type 0} (has : V → P → Type 0) (there : Bool) (vs : List (Named V))

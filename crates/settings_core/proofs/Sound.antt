@@ -18,7 +18,7 @@ use Rattle.settings_core.specs.Lifecycles.{table_fault as lifecycle_fault}
 use Rattle.settings_core.specs.Named.{under}
 use Rattle.settings_core.specs.Reading.{IsSettingsOf, build_fault, late_fault, table_fault}
 use Rattle.settings_core.specs.Sound.{AreSound}
-use Rattle.settings_core.specs.Stated.{default_of, fault_in}
+use Rattle.settings_core.specs.Stated.{bad_in, bad_of, default_of}
 use Rattle.settings_core.specs.declared.fault.SettingsFault.TheVariants.{Lifecycle}
 use Rattle.settings_core.specs.declared.named.Named.{Named}
 use Rattle.settings_core.specs.declared.settings.Settings.{Settings}
@@ -42,11 +42,13 @@ one_more : (ns : List (Named Parts)) (n : Named Parts) → HaveNone ns → fault
 one_more [] n all one = (one, tt)
 one_more (m ∷ ms) n all one = (all.0, one_more ms n all.1 one)
 
-listed : (ms : Members) → fault_in lifecycle_fault ms ≡ None → HaveNone (lifecycles_in ms)
+listed : (ms : Members) → bad_in lifecycle_fault ms ≡ None → HaveNone (lifecycles_in ms)
 listed no_members e = tt
 listed (member k d ms) e =
-    let both = both_none (lifecycle_fault (members_of d)) (fault_in lifecycle_fault ms) e in
-    (none_mapped Lifecycle (fault_of (lifecycle_of (members_of d))) both.0, listed ms both.1)
+    let own = lifecycle_fault (members_of d) in
+    let both = both_none (bad_of lifecycle_fault k (members_of d)) (bad_in lifecycle_fault ms) e in
+    let none : own ≡ None = none_mapped _ own both.0 in
+    (none_mapped Lifecycle (fault_of (lifecycle_of (members_of d))) none, listed ms both.1)
 
 standard : fault_of default_lifecycle ≡ None
 unfolding fault_of default_lifecycle
@@ -83,5 +85,6 @@ sound bytes settings of_text name lifecycle there =
     let table_of_them = table_at (codes "lifecycle") ms in
     found name (lifecycles_of ms) lifecycle
     (completed (is_some (get_member (codes "default") table_of_them)) (lifecycles_in table_of_them)
-    (listed table_of_them none))
+    (listed table_of_them
+    (none_mapped (λ bad. bad.fault) (bad_in lifecycle_fault table_of_them) none)))
     (sym (of_text.3.lifecycles name) ∙ there)

@@ -1,10 +1,13 @@
 -- Examples of the definitions: what has a fault, and what stands beside it and doesn't; which of
 -- two is told.
 use Rattle.std.proofs.Common.{◌≡◌, ℕ, true, false, pos, List, Some, inl, inr}
-use Rattle.std.proofs.Common.{None, arith, refl, codes, [], ◌∷◌}
+use Rattle.std.proofs.Common.{None, arith, refl, codes, [], ◌∷◌, ◌++◌}
+use Rattle.std.specs.Fmt.{decimal}
 use Rattle.toml.specs.Data.{Data, string, integer, array, table, Items, no_items, item}
 use Rattle.toml.specs.Data.{Members, no_members, member}
 use Rattle.hours_core.specs.declared.fault.HoursFault.TheVariants as in_hours
+use Rattle.hours_core.specs.declared.misplaced.MisplacedInterval.{MisplacedInterval}
+use Rattle.hours_core.specs.declared.misplaced.Misplacement.TheVariants.{Early}
 use Rattle.lifecycle_core.specs.Fault.{fault_of as lifecycle_fault}
 use Rattle.lifecycle_core.specs.Standard.{default_lifecycle}
 use Rattle.lifecycle_core.specs.declared.fault.LifecycleFault.TheVariants as in_lifecycle
@@ -23,6 +26,7 @@ use Rattle.settings_places.specs.Lines.{column_at, line_at}
 use Rattle.settings_places.specs.Placed.{HasFault}
 use Rattle.settings_places.specs.Place as place
 use Rattle.settings_places.specs.Place.{place_of_fault}
+use Rattle.settings_places.specs.Told.{day_key, place_text}
 
 abbrev text : List ℕ → Data
 text t = string t
@@ -149,20 +153,21 @@ twice =
     member (codes "groups") (table (member (codes "ann") (texts (codes "bob")) no_members))
     (member (codes "persons") persons no_members)
 
-person_of_two : HasFault twice (Rights in_rights.Repeated) (place.person_twice (codes "bob"))
-person_of_two = omega arith
+person_of_two : HasFault twice (Rights in_rights.Repeated)
+    (place.person_twice (codes "bob") 1 2)
+person_of_two = (refl, refl, omega arith)
 
 person_and_group : HasFault twice (Rights in_rights.Repeated)
-    (place.person_and_group (codes "ann"))
+    (place.person_and_group (codes "ann") 0)
 person_and_group = (refl, refl)
 
 person_without_group : HasFault twice (Rights in_rights.Repeated)
-    (place.person_and_group (codes "bob")) → ⊥
+    (place.person_and_group (codes "bob") 1) → ⊥
 person_without_group h = absurd (let no : false ≡ true = h.1 in cc)
 
 -- the second `bob` stands before the second `ann`
 persons_before_groups : place_of_fault twice (Rights in_rights.Repeated)
-    ≡ Some (place.person_twice (codes "bob"))
+    ≡ Some (place.person_twice (codes "bob") 1 2)
 persons_before_groups = refl
 
 -- ---- groups and grants
@@ -354,6 +359,49 @@ calendars =
 interval_turned_round : HasFault calendars (Hours in_hours.BadInterval)
     (place.calendar (codes "night"))
 interval_turned_round = inl (refl, refl)
+
+-- on Monday the second interval begins before the first ends
+abbrev overlapping : Members
+overlapping =
+    member (codes "calendar")
+    (table
+    (member (codes "office")
+    (table
+    (member (codes "mon")
+    (array
+    (item (text (codes "09:00-12:00")) (item (text (codes "11:00-13:00")) no_items)))
+    no_members))
+    no_members))
+    no_members
+
+abbrev second_of_monday : MisplacedInterval
+second_of_monday = record { day = 1; index = 1; why = Early }
+
+second_interval_told : place_of_fault overlapping (Hours in_hours.BadInterval)
+    ≡ Some (place.interval (codes "office") second_of_monday)
+second_interval_told = refl
+
+second_interval : HasFault overlapping (Hours in_hours.BadInterval)
+    (place.interval (codes "office") second_of_monday)
+second_interval =
+    inl (refl, (refl, ((540, 720) ∷ (660, 780) ∷ [], (660, 780), refl, refl, refl)))
+
+interval_for_the_years : HasFault overlapping (Hours in_hours.BadYears)
+    (place.interval (codes "office") second_of_monday) → ⊥
+interval_for_the_years h = h
+
+interval_in_words : place_text (place.interval (codes "office") second_of_monday)
+    ≡ codes "[calendar.office]: interval " ++ (decimal 2 ++ codes " of `mon`")
+interval_in_words = refl
+
+sunday_is_first : day_key 0 ≡ codes "sun"
+sunday_is_first = refl
+
+saturday_is_last : day_key 6 ≡ codes "sat"
+saturday_is_last = refl
+
+no_eighth_day : day_key 7 ≡ []
+no_eighth_day = refl
 
 -- its only status is initial and active
 abbrev lifecycles : Members

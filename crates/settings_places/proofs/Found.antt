@@ -1,10 +1,12 @@
 -- What a search finds passes its test, and it finds one where one passes.
-use Rattle.std.proofs.Common.{◌≡◌, ◌⊎◌, inl, inr, ℕ, ◌+◌, ◌≤◌, Bool, true, false, cond, not, ◌&&◌, ◌||◌}
-use Rattle.std.proofs.Common.{List, [], ◌∷◌, Option, Some, None, is_some, find, filter, length, refl, ap, ◌∙◌, arith}
+use Rattle.std.proofs.Common.{◌≡◌, ◌⊎◌, inl, inr, ℕ, ◌+◌, Bool, true, false, cond, not, ◌&&◌, ◌||◌}
+use Rattle.std.proofs.Common.{List, [], ◌∷◌, Option, Some, None, is_some, find, refl, sym, ap, ◌∙◌, arith}
+use Rattle.std.proofs.Common.{zero, suc, ◌<◌, take, slice_get}
 use Rattle.std.proofs.Common.{subst, if◌then◌else◌}
-use Rattle.std.specs.List.{list_all, list_any, position}
+use Rattle.std.specs.List.{list_all, list_any, position, position_from}
 use Rattle.std.specs.Option.{option_map, option_or}
 use Rattle.std.specs.Str.{bytes_eq}
+use Rattle.std.proofs.lemmas.Iterator.Adapters.{position_from-zero}
 use Rattle.std.proofs.lemmas.Slice.Eq.{bytes_eq-Decides}
 use Rattle.rights_core.specs.People.{is_among}
 use Rattle.rights_core.proofs.Failing.{one_at, one_fails}
@@ -133,49 +135,76 @@ some_mapped f None h = absurd (cc)
 
 -- ---- names that stand twice
 
--- how many of the names are this one
-abbrev pub times : List ℕ → List (List ℕ) → ℕ
-times x names = length (filter (λ name. bytes_eq name x) names)
+or_split : (b rest : Bool) → (b || rest) ≡ true → (b ≡ true) ⊎ ((b ≡ false) × (rest ≡ true))
+or_split true rest h = inl refl
+or_split false rest h = inr (refl, h)
 
-counted_or : (b rest : Bool) (name : List ℕ) (names : List (List ℕ)) → (b || rest) ≡ true
-    → (rest ≡ true → 1 ≤ length names) → 1 ≤ length (cond b (name ∷ names) names)
-counted_or true rest name names h there = omega arith
-counted_or false rest name names h there = there h
+-- one that comes before the others, or among them
+shifted : (a b c : Bool) → ((a || b) || c) ≡ true → (b || (a || c)) ≡ true
+shifted true true c h = refl
+shifted true false c h = refl
+shifted false true c h = refl
+shifted false false c h = h
 
--- one more, before the others or after
-moved : (b : Bool) (name : List ℕ) (some others : List (List ℕ))
-    → length (cond b (name ∷ some) some) + length others
-    ≡ length some + length (cond b (name ∷ others) others)
-moved true name some others = omega arith
-moved false name some others = refl
+-- a name that is found again is one of those before it
+again_from : (n : ℕ) (earlier names : List (List ℕ)) (i : ℕ) → first_again n earlier names ≡ Some i
+    → (k : ℕ) × (name : List ℕ) × (i ≡ k + n) × (slice_get names k ≡ Some name)
+    × ((is_among earlier name || is_among (take k names) name) ≡ true)
+again_from n earlier [] i h = absurd (cc)
+again_from n earlier (x ∷ xs) i h =
+    found_or {A = ℕ}
+    (λ j. (k : ℕ) × (name : List ℕ) × (j ≡ k + n) × (slice_get (x ∷ xs) k ≡ Some name)
+    × ((is_among earlier name || is_among (take k (x ∷ xs)) name) ≡ true))
+    (is_among earlier x) n (first_again (n + 1) (x ∷ earlier) xs) i h
+    (λ is. (zero, x, omega arith, refl, or_left (is_among earlier x) false is))
+    (λ rest. let (k, name, at, there, among) = again_from (n + 1) (x ∷ earlier) xs i rest in (
+      suc k,
+      name,
+      omega (arith, at),
+      there,
+      shifted (bytes_eq x name) (is_among earlier name) (is_among (take k xs) name) among,
+    ))
 
-among_counted : (x : List ℕ) (names : List (List ℕ)) → is_among names x ≡ true
-    → 1 ≤ times x names
-among_counted x [] h = absurd (cc)
-among_counted x (name ∷ names) h =
-    counted_or (bytes_eq name x) (is_among names x) name (filter (λ n. bytes_eq n x) names) h
-    (among_counted x names)
+-- one that is among the first has its place there
+place_among : (n i : ℕ) (name : List ℕ) (xs : List (List ℕ)) → is_among (take i xs) name ≡ true
+    → (k : ℕ) × (position_from (λ other. bytes_eq other name) n xs ≡ Some (k + n)) × (k < i)
+    × (slice_get xs k ≡ Some name)
+place_among n zero name xs h = absurd (cc)
+place_among n (suc i) name [] h = absurd (cc)
+place_among n (suc i) name (x ∷ xs) h =
+    let rest = position_from (λ other. bytes_eq other name) (n + 1) xs in
+    elim (or_split (bytes_eq x name) (is_among (take i xs) name) h) [
+      | inl is ↦
+          let first : n ≡ zero + n = omega arith in (
+            zero,
+            ap (λ b. cond b (Some n) rest) is ∙ ap Some first,
+            omega arith,
+            ap Some ((bytes_eq-Decides x name).0 is),
+          )
+      | inr both ↦
+          let (k, at, below, there) = place_among (n + 1) i name xs both.1 in
+          let same : k + (n + 1) ≡ suc k + n = omega arith in (
+            suc k,
+            ap (λ b. cond b (Some n) rest) both.0 ∙ at ∙ ap Some same,
+            omega (arith, below),
+            there,
+          )
+    ]
 
-two_of : (a b : ℕ) → 1 ≤ a → 1 ≤ b → 2 ≤ a + b
-two_of a b once here = omega (arith, once, here)
-
--- one that is found again is counted twice
-again_counted : (x : List ℕ) (earlier names : List (List ℕ))
-    → first_again earlier names ≡ Some x → 2 ≤ times x earlier + times x names
-again_counted x earlier [] h = absurd (cc)
-again_counted x earlier (name ∷ names) h =
-    found_or (λ z. 2 ≤ times z earlier + times z (name ∷ names)) (is_among earlier name) name
-    (first_again (name ∷ earlier) names) x h
-    (λ is.
-    two_of (times name earlier) (times name (name ∷ names)) (among_counted name earlier is)
-    (among_counted name (name ∷ names)
-    (or_left (bytes_eq name name) (is_among names name) (itself name))))
-    (λ rest.
-    subst (λ n. 2 ≤ n)
-    (moved (bytes_eq name x) name (filter (λ n. bytes_eq n x) earlier)
-    (filter (λ n. bytes_eq n x) names))
-    (again_counted x (name ∷ earlier) names rest))
-
-pub again_twice : (x : List ℕ) (names : List (List ℕ)) → first_again [] names ≡ Some x
-    → 2 ≤ times x names
-again_twice x names h = let counted = again_counted x [] names h in omega (arith, counted)
+-- the first name that stands again, and the first place of the same name
+pub again_stands : (names : List (List ℕ)) (second : ℕ) → first_again 0 [] names ≡ Some second
+    → (name : List ℕ) × (first : ℕ) × (slice_get names second ≡ Some name)
+    × (position (λ other. bytes_eq other name) names ≡ Some first)
+    × (slice_get names first ≡ Some name) × (first < second)
+again_stands names second h =
+    let (k, name, at, there, among) = again_from 0 [] names second h in
+    let same : k ≡ second = omega (arith, at) in
+    let (first, found, below, here) = place_among 0 k name names among in
+    let none : first + 0 ≡ first = omega arith in (
+      name,
+      first,
+      ap (slice_get names) (sym same) ∙ there,
+      position_from-zero (λ other. bytes_eq other name) names ∙ found ∙ ap Some none,
+      here,
+      omega (arith, below, same),
+    )

@@ -8,7 +8,12 @@ use Rattle.std.specs.Option.{option_map, option_map_or, option_or}
 use Rattle.std.specs.Str.{bytes_eq}
 use Rattle.std.proofs.lemmas.Bool.{or_parts}
 use Rattle.toml.specs.Data.{Members, no_members, member}
+use Rattle.hours_core.specs.Misplaced.{misplaced_interval}
+use Rattle.hours_core.specs.declared.fault.HoursFault.{HoursFault}
+use Rattle.hours_core.specs.declared.fault.HoursFault.TheVariants as in_hours
 use Rattle.hours_core.specs.declared.level.Level.{Level}
+use Rattle.hours_core.specs.declared.misplaced.MisplacedInterval.{MisplacedInterval}
+use Rattle.hours_core.proofs.WeekLemmas.{found_misplaced}
 use Rattle.lifecycle_core.specs.Fault as lifecycle
 use Rattle.lifecycle_core.specs.declared.parts.Parts as lifecycles
 use Rattle.text_core.specs.Form.{is_name, is_right_name}
@@ -31,7 +36,7 @@ use Rattle.settings_form.specs.Walk.{form_fault, has_fault}
 use Rattle.settings_form.specs.declared.fault.FormFault.{FormFault}
 use Rattle.settings_form.specs.declared.fault.FormFault.TheVariants as form
 use Rattle.settings_form.proofs.Places.{fault_found}
-use Rattle.settings_parts.specs.CalendarParts.{hours_of}
+use Rattle.settings_parts.specs.CalendarParts.{hours_of, week_of}
 use Rattle.settings_parts.specs.LevelParts.{level_of}
 use Rattle.settings_parts.specs.LifecycleParts.{lifecycle_of}
 use Rattle.settings_parts.specs.PeopleParts.{grant_to_root, grants_at, has_people, people_in}
@@ -45,6 +50,7 @@ use Rattle.settings_core.specs.Names.{knows_calendar, knows_calendars, knows_ign
 use Rattle.settings_core.specs.Names.{knows_persons, knows_right, knows_rights, knows_status}
 use Rattle.settings_core.specs.Reading.{build_fault, fault_of, has_limits, has_tokens, is_count_at}
 use Rattle.settings_core.specs.Reading.{late_fault, table_fault}
+use Rattle.settings_core.specs.Stated.{BadTable, bad_in}
 use Rattle.settings_core.specs.Tokens.{is_token}
 use Rattle.settings_core.specs.declared.fault.SettingsFault.{SettingsFault}
 use Rattle.settings_core.specs.declared.fault.SettingsFault.TheVariants.{Hours}
@@ -55,21 +61,23 @@ use Rattle.settings_core.specs.declared.named.Named.{Named}
 use Rattle.settings_core.proofs.Bounds.{count_fails, limit_fails}
 use Rattle.settings_places.specs.Grants.{grant_at, table_of_grant}
 use Rattle.settings_core.specs.Limits.{bad_count, bad_limit}
-use Rattle.settings_places.specs.Placed.{HasFault, HasGrant, HasTable, IsBadCount}
+use Rattle.settings_places.specs.Placed.{HasFault, HasGrant, HasTable, IsBadCount, IsMisplacedIn}
 use Rattle.settings_places.specs.Placed.{IsMisnamed, PlaceLaw, grants_to_none}
 use Rattle.settings_places.specs.Place as place
 use Rattle.settings_places.specs.Place.{FaultPlace, calendar_place, first_again, granted_place}
+use Rattle.settings_places.specs.Place.{interval_or, place_within}
 use Rattle.settings_places.specs.Place.{limit_place, member_place, misnamed_place, name_place}
-use Rattle.settings_places.specs.Place.{named_place, person_place, place_of_fault, repeated_place}
-use Rattle.settings_places.specs.Place.{right_place, status_place, subject_place, token_place}
+use Rattle.settings_places.specs.Place.{named_place, person_place, place_of_fault, repeated_of}
+use Rattle.settings_places.specs.Place.{repeated_place, right_place, status_place, subject_place}
+use Rattle.settings_places.specs.Place.{token_place}
 use Rattle.settings_places.specs.declared.place.FaultPlace.{FaultPlace as PlaceInCode}
-use Rattle.settings_places.proofs.Found.{again_twice, and_both, either_some, failing, failing_at}
+use Rattle.settings_places.proofs.Found.{again_stands, and_both, either_some, failing, failing_at}
 use Rattle.settings_places.proofs.Found.{failing_by, find_among, find_any, find_passes, found_or}
 use Rattle.settings_places.proofs.Found.{found_unless, itself, mapped_some, no_failing, no_failing_at}
 use Rattle.settings_places.proofs.Found.{no_failing_by, not_true, some_either}
 use Rattle.settings_places.proofs.Found.{some_mapped, some_of}
 use Rattle.settings_places.proofs.Made.{any_at, at_position, made_by, of_table, said_by}
-use Rattle.settings_places.proofs.TextTables.{fault_of_part, first_bad, limit_has}
+use Rattle.settings_places.proofs.TextTables.{bad_has, has_also, limit_has}
 
 -- the first fault that applies is this one, or one of the rest, where this doesn't
 when_or : {F : Type 0} (P : F → Type 0) (b : Bool) (y : F) (rest : Option F) (x : F)
@@ -136,25 +144,57 @@ form_placed ms form.WrongKind h =
 
 -- ---- calendars and lifecycles
 
+-- of a calendar's interval, or of the calendar
+interval_placed : (ms : Members) (bad : BadTable) (o : Option MisplacedInterval)
+    → o ≡ misplaced_interval (week_of bad.table)
+    → HasTable (λ t. t ≡ bad.table) bad.name (calendars.calendar_tables ms)
+    → calendars.table_fault bad.table ≡ Some (Hours in_hours.BadInterval)
+    → HasFault ms (Hours in_hours.BadInterval) (interval_or bad.name o)
+interval_placed ms bad None is there own =
+    has_also (λ t. calendars.table_fault t ≡ Some (Hours in_hours.BadInterval)) bad
+    (calendars.calendar_tables ms) there own
+interval_placed ms bad (Some found) is there own =
+    has_also (IsMisplacedIn found) bad (calendars.calendar_tables ms) there
+    (own, found_misplaced (week_of bad.table) found (sym is))
+
+hours_placed : (ms : Members) (bad : BadTable) (x : HoursFault)
+    → HasTable (λ t. t ≡ bad.table) bad.name (calendars.calendar_tables ms)
+    → calendars.table_fault bad.table ≡ Some (Hours x)
+    → HasFault ms (Hours x) (place_within x bad)
+hours_placed ms bad in_hours.BadInterval there own =
+    interval_placed ms bad (misplaced_interval (week_of bad.table)) refl there own
+hours_placed ms bad x there own =
+    has_also (λ t. calendars.table_fault t ≡ Some (Hours x)) bad (calendars.calendar_tables ms)
+    there own
+
 calendar_placed : (ms : Members) (f : SettingsFault) → calendars.calendars_fault ms ≡ Some f
     → HasPlace ms f
 calendar_placed ms f h =
     let all = calendars.calendar_tables ms in
-    let (k, found, has) = first_bad calendars.table_fault f all h in
-    let (x, is) = fault_of_part Hours (λ t. calendars.hours_fault (hours_of t)) f k all has in
-    let own : HasTable (λ t. calendars.table_fault t ≡ Some (Hours x)) k all =
-    subst (λ g. HasTable (λ t. calendars.table_fault t ≡ Some g) k all) (sym is) has in
-    subst (HasPlace ms) is (place.calendar k, ap (option_map place.calendar) found, own)
+    let (bad, found, same) = mapped_some (λ b. b.fault) (bad_in calendars.table_fault all) f h in
+    let (there, own) = bad_has calendars.table_fault all bad found in
+    let (x, hours, is) =
+    mapped_some Hours (calendars.hours_fault (hours_of bad.table)) bad.fault own in
+    subst (HasPlace ms) (is ∙ same) (
+      place_within x bad,
+      ap (option_map (place_within x)) found,
+      hours_placed ms bad x there (own ∙ ap Some (sym is)),
+    )
 
 lifecycle_placed : (ms : Members) (f : SettingsFault) → tables.lifecycles_fault ms ≡ Some f
     → HasPlace ms f
 lifecycle_placed ms f h =
     let all = table_at (codes "lifecycle") ms in
-    let (k, found, has) = first_bad tables.table_fault f all h in
-    let (x, is) = fault_of_part Lifecycle (λ t. lifecycle.fault_of (lifecycle_of t)) f k all has in
-    let own : HasTable (λ t. tables.table_fault t ≡ Some (Lifecycle x)) k all =
-    subst (λ g. HasTable (λ t. tables.table_fault t ≡ Some g) k all) (sym is) has in
-    subst (HasPlace ms) is (place.lifecycle k, ap (option_map place.lifecycle) found, own)
+    let (bad, found, same) = mapped_some (λ b. b.fault) (bad_in tables.table_fault all) f h in
+    let (there, own) = bad_has tables.table_fault all bad found in
+    let (x, part, is) =
+    mapped_some Lifecycle (lifecycle.fault_of (lifecycle_of bad.table)) bad.fault own in
+    subst (HasPlace ms) (is ∙ same) (
+      place.lifecycle bad.name,
+      ap (option_map (λ b. place.lifecycle b.name)) found,
+      has_also (λ t. tables.table_fault t ≡ Some (Lifecycle x)) bad all there
+          (own ∙ ap Some (sym is)),
+    )
 
 -- ---- grants
 
@@ -373,28 +413,35 @@ subject_placed ms h =
 repeated_placed : (ms : Members)
     → repeats_name (people_in ms).persons (people_in ms).groups ≡ true
     → HasPlace ms (Rights rights.Repeated)
-repeated_placed ms h = by_person (first_again [] (people_in ms).persons) refl
+repeated_placed ms h =
+    by_place (first_again 0 [] (people_in ms).persons) refl
+    (position (has_group (people_in ms).groups) (people_in ms).persons) refl
   where
-    by_group : (o : Option (List ℕ)) → o ≡ find (has_group (people_in ms).groups) (people_in ms).persons
+    by_place : (again : Option ℕ) → again ≡ first_again 0 [] (people_in ms).persons
+        → (shared : Option ℕ)
+        → shared ≡ position (has_group (people_in ms).groups) (people_in ms).persons
         → Stands (HasFault ms (Rights rights.Repeated))
-        (option_or (option_map place.person_and_group o) (Some place.people))
-    by_group (Some name) is = (
-      place.person_and_group name,
-      refl,
-      (
-        find_among (has_group (people_in ms).groups) (people_in ms).persons name (sym is),
-        find_passes (has_group (people_in ms).groups) (people_in ms).persons name (sym is),
-      ),
-    )
-    by_group None is = (place.people, refl, h)
-
-    by_person : (o : Option (List ℕ)) → o ≡ first_again [] (people_in ms).persons
-        → Stands (HasFault ms (Rights rights.Repeated)) (option_or (option_map place.person_twice o)
-        (option_or (option_map place.person_and_group
-        (find (has_group (people_in ms).groups) (people_in ms).persons)) (Some place.people)))
-    by_person (Some name) is =
-        (place.person_twice name, refl, again_twice name (people_in ms).persons (sym is))
-    by_person None is = by_group (find (has_group (people_in ms).groups) (people_in ms).persons) refl
+        (repeated_of again shared (people_in ms).persons)
+    by_place (Some second) is shared also =
+        let persons = (people_in ms).persons in
+        let (name, first, there, found, here, before) = again_stands persons second (sym is) in (
+          place.person_twice name first second,
+          ap
+              (option_and_then
+              (λ n. option_map (λ f. place.person_twice n f second)
+              (position (λ other. bytes_eq other n) persons))) there
+              ∙ ap (option_map (λ f. place.person_twice name f second)) found,
+          (here, there, before),
+        )
+    by_place None is (Some at) also =
+        let persons = (people_in ms).persons in
+        let (name, there, passes) =
+        at_position (has_group (people_in ms).groups) persons at (sym also) in (
+          place.person_and_group name at,
+          ap (option_map (λ n. place.person_and_group n at)) there,
+          (there, passes),
+        )
+    by_place None is None also = (place.people, refl, h)
 
 people_placed : (ms : Members) (f : RightsFault) → Applies (people_in ms) f
     → HasPlace ms (Rights f)

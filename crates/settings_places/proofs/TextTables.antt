@@ -1,54 +1,50 @@
 -- What is place with the calendars, lifecycles and levels of a text.
 use Rattle.std.proofs.Common.{◌≡◌, inl, inr, ℕ, false}
-use Rattle.std.proofs.Common.{List, Option, Some, None, is_some, refl, sym, ◌∙◌}
-use Rattle.std.proofs.Common.{subst, codes, if◌then◌else◌}
-use Rattle.std.specs.Option.{option_map, option_or}
-use Rattle.toml.specs.Data.{Data, Members, no_members, member}
+use Rattle.std.proofs.Common.{List, Option, Some, None, refl, sym, ◌∙◌}
+use Rattle.std.proofs.Common.{ap, subst, codes, if◌then◌else◌}
+use Rattle.std.specs.Option.{option_map}
+use Rattle.toml.specs.Data.{Members, no_members, member}
 use Rattle.settings_parts.specs.LevelParts.{has_limit_at}
 use Rattle.settings_parts.specs.Values.{members_of}
-use Rattle.settings_core.specs.Stated.{fault_in}
+use Rattle.settings_core.specs.Stated.{BadTable, bad_in, bad_of}
 use Rattle.settings_core.specs.declared.fault.SettingsFault.{SettingsFault}
 use Rattle.settings_core.specs.Limits.{bad_key, bad_limit_in}
-use Rattle.settings_places.specs.Parts.{bad_in}
 use Rattle.settings_places.specs.Placed.{HasTable}
 use Rattle.settings_places.proofs.Found.{either_some, found_unless, mapped_some}
 
 -- ---- calendars and lifecycles
 
-abbrev Faults : Type 0
-Faults = Members → Option SettingsFault
+-- the table of this name is so, where it is one that is
+pub has_also : (IsSo : Members → Type 0) (bad : BadTable) (ms : Members)
+    → HasTable (λ t. t ≡ bad.table) bad.name ms → IsSo bad.table → HasTable IsSo bad.name ms
+has_also IsSo bad no_members there so = absurd there
+has_also IsSo bad (member k d ms) (inl here) so =
+    inl (here.0, subst IsSo (sym here.1) so)
+has_also IsSo bad (member k d ms) (inr there) so = inr (has_also IsSo bad ms there so)
 
--- the first table with a fault has the fault of them all
-HasFirst : Faults → SettingsFault → Option (List ℕ) → Members → Type 0
-HasFirst fault_of f found ms =
-    (k : List ℕ) × (found ≡ Some k) × HasTable (λ t. fault_of t ≡ Some f) k ms
+bad_here : (fault_of : Members → Option SettingsFault) (k : List ℕ) (table : Members)
+    (bad : BadTable) → bad_of fault_of k table ≡ Some bad
+    → (k ≡ bad.name) × (table ≡ bad.table) × (fault_of bad.table ≡ Some bad.fault)
+bad_here fault_of k table bad h =
+    let (f, is, same) = mapped_some _ (fault_of table) bad h in
+    let name : k ≡ bad.name = ap (λ (b : BadTable). b.name) same in
+    let there : table ≡ bad.table = ap (λ (b : BadTable). b.table) same in
+    let fault : f ≡ bad.fault = ap (λ (b : BadTable). b.fault) same in
+    (name, there, ap fault_of (sym there) ∙ is ∙ ap Some fault)
 
-bad_or : (fault_of : Faults) (f : SettingsFault) (k : List ℕ) (d : Data) (ms : Members)
-    (o : Option SettingsFault) → o ≡ fault_of (members_of d)
-    → option_or o (fault_in fault_of ms) ≡ Some f
-    → (fault_in fault_of ms ≡ Some f → HasFirst fault_of f (bad_in fault_of ms) ms)
-    → HasFirst fault_of f (if is_some o then Some k else bad_in fault_of ms) (member k d ms)
-unfolding HasFirst
-bad_or fault_of f k d ms (Some x) is h rest = (k, refl, inl (refl, sym is ∙ h))
-bad_or fault_of f k d ms None is h rest =
-    let (j, found, has) = rest h in (j, found, inr has)
-
-pub first_bad : (fault_of : Faults) (f : SettingsFault) (ms : Members)
-    → fault_in fault_of ms ≡ Some f
-    → (k : List ℕ) × (bad_in fault_of ms ≡ Some k) × HasTable (λ t. fault_of t ≡ Some f) k ms
-unfolding HasFirst
-first_bad fault_of f no_members h = absurd (cc)
-first_bad fault_of f (member k d ms) h =
-    bad_or fault_of f k d ms (fault_of (members_of d)) refl h (first_bad fault_of f ms)
-
--- the fault of a table is one of its part
-pub fault_of_part : {F : Type 0} (part : F → SettingsFault) (part_of : Members → Option F)
-    (f : SettingsFault) (k : List ℕ) (ms : Members)
-    → HasTable (λ t. option_map part (part_of t) ≡ Some f) k ms → (x : F) × (part x ≡ f)
-fault_of_part part part_of f k no_members has = absurd has
-fault_of_part part part_of f k (member j d ms) (inl has) =
-    let (x, is, same) = mapped_some part (part_of (members_of d)) f has.1 in (x, same)
-fault_of_part part part_of f k (member j d ms) (inr has) = fault_of_part part part_of f k ms has
+-- the first table that has a fault is there, and has it
+pub bad_has : (fault_of : Members → Option SettingsFault) (ms : Members) (bad : BadTable)
+    → bad_in fault_of ms ≡ Some bad
+    → HasTable (λ t. t ≡ bad.table) bad.name ms × (fault_of bad.table ≡ Some bad.fault)
+bad_has fault_of no_members bad h = absurd (cc)
+bad_has fault_of (member k d ms) bad h =
+    elim (either_some (bad_of fault_of k (members_of d)) (bad_in fault_of ms) bad h) [
+      | inl here ↦
+          let (name, there, own) = bad_here fault_of k (members_of d) bad here in
+          (inl (name, there), own)
+      | inr later ↦
+          let (there, own) = bad_has fault_of ms bad later.1 in (inr there, own)
+    ]
 
 -- ---- levels
 

@@ -1,10 +1,15 @@
 -- What of a settings text has its fault first.
-use Rattle.std.specs.Prelude.{ℕ, not, List, [], ◌∷◌, Option, Some, None, codes, find, is_some}
-use Rattle.std.specs.Prelude.{option_and_then, unwrap_or, if◌then◌else◌}
+use Rattle.std.specs.Prelude.{ℕ, ◌+◌, not, List, [], ◌∷◌, Option, Some, None, codes, find, is_some}
+use Rattle.std.specs.Prelude.{option_and_then, slice_get, unwrap_or, if◌then◌else◌}
 use Rattle.std.specs.List.{position}
 use Rattle.std.specs.Option.{option_map, option_or}
+use Rattle.std.specs.Str.{bytes_eq}
 use Rattle.toml.specs.Data.{Members}
+use Rattle.hours_core.specs.Misplaced.{misplaced_interval}
+use Rattle.hours_core.specs.declared.fault.HoursFault.{HoursFault}
+use Rattle.hours_core.specs.declared.fault.HoursFault.TheVariants as in_hours
 use Rattle.hours_core.specs.declared.level.Level.{Level}
+use Rattle.hours_core.specs.declared.misplaced.MisplacedInterval.{MisplacedInterval}
 use Rattle.lifecycle_core.specs.declared.parts.Parts as lifecycles
 use Rattle.text_core.specs.Form.{is_name}
 use Rattle.rights_core.specs.People.{is_among, knows}
@@ -17,6 +22,7 @@ use Rattle.rights_core.specs.declared.parts.Parts.{Parts}
 use Rattle.settings_form.specs.Places.{KeyAt, fault_key, seen_key}
 use Rattle.settings_form.specs.declared.fault.FormFault.{FormFault}
 use Rattle.settings_form.specs.declared.fault.FormFault.TheVariants as form
+use Rattle.settings_parts.specs.CalendarParts.{week_of}
 use Rattle.settings_parts.specs.PeopleParts.{people_in, tokens_of}
 use Rattle.settings_parts.specs.Values.{text_at}
 use Rattle.settings_parts.specs.declared.people.Token.{Token}
@@ -24,6 +30,7 @@ use Rattle.settings_core.specs.Levels.{levels_of}
 use Rattle.settings_core.specs.Lifecycles.{lifecycles_of}
 use Rattle.settings_core.specs.Names.{knows_calendar, knows_right, knows_status}
 use Rattle.settings_core.specs.Reading.{build_fault}
+use Rattle.settings_core.specs.Stated.{BadTable}
 use Rattle.settings_core.specs.Tokens.{is_token}
 use Rattle.settings_core.specs.declared.fault.SettingsFault.{SettingsFault}
 use Rattle.settings_core.specs.declared.fault.SettingsFault.TheVariants.{NotToml, UnknownKey}
@@ -38,20 +45,22 @@ use Rattle.settings_places.specs.Parts.{bad_calendar, bad_lifecycle}
 use Rattle.settings_places.specs.declared.place.FaultPlace.{FaultPlace as PlaceInCode}
 use Rattle.settings_places.specs.declared.place.FaultPlace.TheVariants as code
 
--- what has a fault: a table by a key; a part by its name; a person or a group by its own name, or
--- two of them by the one that they share; a group by a member; a grant by whom it is for, by a right
--- or a queue; a level by a calendar, a status or a limit; a token by its person or by its own form
+-- what has a fault: a table by a key; a part by its name; a calendar by an interval; a person or a
+-- group by its own name, or two of them by the one that they share and by the persons' places; a
+-- group by a member; a grant by whom it is for, by a right or a queue; a level by a calendar, a
+-- status or a limit; a token by its person or by its own form
 pub data FaultPlace : Type 0 where
   key : KeyAt → FaultPlace
   calendar : List ℕ → FaultPlace
+  interval : List ℕ → MisplacedInterval → FaultPlace
   lifecycle : List ℕ → FaultPlace
   person_named : List ℕ → FaultPlace
   group_named : List ℕ → FaultPlace
   granted : ℕ → List ℕ → FaultPlace
   group_member : List ℕ → List ℕ → FaultPlace
   subject : ℕ → List ℕ → FaultPlace
-  person_twice : List ℕ → FaultPlace
-  person_and_group : List ℕ → FaultPlace
+  person_twice : List ℕ → ℕ → ℕ → FaultPlace
+  person_and_group : List ℕ → ℕ → FaultPlace
   people : FaultPlace
   right : ℕ → List ℕ → FaultPlace
   calendar_of : List ℕ → List ℕ → FaultPlace
@@ -64,6 +73,23 @@ pub data FaultPlace : Type 0 where
 -- the first table that has a fault of form, and the key by which it does
 abbrev pub key_place : FormFault → Members → Option FaultPlace
 key_place f ms = option_map key (fault_key f ms)
+
+-- ---- calendars
+
+abbrev pub interval_or : List ℕ → Option MisplacedInterval → FaultPlace
+interval_or name (Some found) = interval name found
+interval_or name None = calendar name
+
+-- a calendar by its interval that can't stand where it does
+abbrev pub interval_place : BadTable → FaultPlace
+interval_place bad = interval_or bad.name (misplaced_interval (week_of bad.table))
+
+abbrev pub place_within : HoursFault → BadTable → FaultPlace
+place_within in_hours.BadInterval bad = interval_place bad
+place_within fault bad = calendar bad.name
+
+abbrev pub hours_place : Members → HoursFault → Option FaultPlace
+hours_place ms fault = option_map (place_within fault) (bad_calendar ms)
 
 -- ---- persons, groups and grants
 
@@ -82,18 +108,36 @@ misnamed_place ms parts =
     (option_map (λ g. group_named g.name) (find (λ g. not (is_name g.name)) parts.groups))
     (granted_place ms parts))
 
--- the first of the names that is one of those before it
-abbrev pub first_again : List (List ℕ) → List (List ℕ) → Option (List ℕ)
-first_again earlier [] = None
-first_again earlier (name ∷ names) =
-    if is_among earlier name then Some name else first_again (name ∷ earlier) names
+-- which of the names, the first of which has this place, is the first that is one before it
+abbrev pub first_again : ℕ → List (List ℕ) → List (List ℕ) → Option ℕ
+first_again n earlier [] = None
+first_again n earlier (name ∷ names) =
+    if is_among earlier name then Some n else first_again (n + 1) (name ∷ earlier) names
+
+-- the first person of this name, and the one at this place
+abbrev pub twice_named : List (List ℕ) → ℕ → List ℕ → Option FaultPlace
+twice_named persons second name =
+    option_map (λ first. person_twice name first second)
+    (position (λ other. bytes_eq other name) persons)
+
+-- the person at this place, and the first one of the same name
+abbrev pub twice_at : List (List ℕ) → ℕ → Option FaultPlace
+twice_at persons second = option_and_then (twice_named persons second) (slice_get persons second)
+
+-- the person at this place, whose name a group has
+abbrev pub shared_at : List (List ℕ) → ℕ → Option FaultPlace
+shared_at persons at = option_map (λ name. person_and_group name at) (slice_get persons at)
+
+abbrev pub repeated_of : Option ℕ → Option ℕ → List (List ℕ) → Option FaultPlace
+repeated_of (Some second) shared persons = twice_at persons second
+repeated_of None (Some at) persons = shared_at persons at
+repeated_of None None persons = Some people
 
 -- two persons, or else a person and a group; or two groups, which a table can't have
 abbrev pub repeated_place : Parts → Option FaultPlace
 repeated_place parts =
-    option_or (option_map person_twice (first_again [] parts.persons))
-    (option_or (option_map person_and_group (find (has_group parts.groups) parts.persons))
-    (Some people))
+    repeated_of (first_again 0 [] parts.persons) (position (has_group parts.groups) parts.persons)
+    parts.persons
 
 -- a group by its first member that is no one, where no name stands twice
 abbrev pub member_place : Parts → Option FaultPlace
@@ -179,8 +223,8 @@ place_of_fault ms NotToml = None
 place_of_fault ms UnknownKey = key_place form.UnknownKey ms
 place_of_fault ms Missing = key_place form.Missing ms
 place_of_fault ms WrongKind = key_place form.WrongKind ms
-place_of_fault ms (Hours fault) = option_map calendar (bad_calendar ms)
-place_of_fault ms (Lifecycle fault) = option_map lifecycle (bad_lifecycle ms)
+place_of_fault ms (Hours fault) = hours_place ms fault
+place_of_fault ms (Lifecycle fault) = option_map (λ bad. lifecycle bad.name) (bad_lifecycle ms)
 place_of_fault ms (Rights fault) = people_place ms fault
 place_of_fault ms UnknownName = name_place ms
 place_of_fault ms BadToken = token_place ms
@@ -192,14 +236,15 @@ place_of_fault ms NoMemory = None
 abbrev pub seen : PlaceInCode → FaultPlace
 seen (code.Key found) = key (seen_key found)
 seen (code.Calendar name) = calendar name.now
+seen (code.Interval name found) = interval name.now found
 seen (code.Lifecycle name) = lifecycle name.now
 seen (code.Person name) = person_named name
 seen (code.Group name) = group_named name
 seen (code.Granted n name) = granted n name
 seen (code.Member group name) = group_member group name
 seen (code.Subject n to) = subject n to
-seen (code.PersonTwice name) = person_twice name
-seen (code.PersonAndGroup name) = person_and_group name
+seen (code.PersonTwice name first second) = person_twice name first second
+seen (code.PersonAndGroup name at) = person_and_group name at
 seen code.People = people
 seen (code.Right n name) = right n name
 seen (code.CalendarOf of name) = calendar_of of name

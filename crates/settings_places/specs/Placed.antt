@@ -1,9 +1,12 @@
 -- What it means that a place of a settings text has a fault, and that each fault has one.
 use Rattle.std.specs.Prelude.{◌≡◌, ◌⊎◌, ℕ, ◌+◌, Bool, true, false, not, ◌&&◌, List, Some}
-use Rattle.std.specs.Prelude.{◌≤◌, IsSomeAnd, codes, filter, length}
+use Rattle.std.specs.Prelude.{◌<◌, ◌≤◌, IsSomeAnd, codes, length, slice_get}
 use Rattle.std.specs.List.{list_any}
 use Rattle.std.specs.Str.{bytes_eq}
 use Rattle.toml.specs.Data.{Data, Members, no_members, member, get_item}
+use Rattle.hours_core.specs.Misplaced.{IsMisplaced}
+use Rattle.hours_core.specs.declared.fault.HoursFault.TheVariants as in_hours
+use Rattle.hours_core.specs.declared.misplaced.MisplacedInterval.{MisplacedInterval}
 use Rattle.text_core.specs.Form.{is_name, is_right_name}
 use Rattle.rights_core.specs.People.{is_among, knows, lists}
 use Rattle.rights_core.specs.RightsFaults.{has_group, is_there, repeats_name}
@@ -11,6 +14,7 @@ use Rattle.rights_core.specs.declared.fault.RightsFault.TheVariants as rights
 use Rattle.rights_core.specs.declared.parts.Parts.{Parts}
 use Rattle.settings_form.specs.Places.{fault_key}
 use Rattle.settings_form.specs.declared.fault.FormFault.TheVariants as form
+use Rattle.settings_parts.specs.CalendarParts.{week_of}
 use Rattle.settings_parts.specs.LevelParts.{has_limit_at, level_of}
 use Rattle.settings_parts.specs.PeopleParts.{grants_at, people_in, tokens_of}
 use Rattle.settings_parts.specs.Values.{items_at, members_of, table_at, text_at, texts_at}
@@ -34,6 +38,11 @@ abbrev pub HasTable : (Members → Type 0) → List ℕ → Members → Type 0
 HasTable IsSo name no_members = ⊥
 HasTable IsSo name (member k d ms) = ((k ≡ name) × IsSo (members_of d)) ⊎ HasTable IsSo name ms
 
+-- the calendar has this interval, which can't stand where it does, and that is its fault
+abbrev pub IsMisplacedIn : MisplacedInterval → Members → Type 0
+IsMisplacedIn found t =
+    (calendars.table_fault t ≡ Some (Hours in_hours.BadInterval)) × IsMisplaced (week_of t) found
+
 -- the grant of this number, from 1, is so
 abbrev pub HasGrant : (Members → Type 0) → ℕ → Members → Type 0
 HasGrant IsSo n ms =
@@ -51,9 +60,9 @@ IsUnknownMember people group name =
     (lists people.groups group name ≡ true)
     × (is_among people.persons name ≡ false) × (has_group people.groups name ≡ false)
 
--- two persons have this name
-abbrev pub IsTwice : List ℕ → List (List ℕ) → Type 0
-IsTwice name persons = 2 ≤ length (filter (λ person. bytes_eq person name) persons)
+-- the name stands at this place, from 0
+abbrev pub IsAt : ℕ → List ℕ → List (List ℕ) → Type 0
+IsAt i name names = slice_get names i ≡ Some name
 
 -- a grant of a table is for a person or a group that isn't there
 abbrev pub grants_to_none : Parts → Members → Bool
@@ -81,6 +90,8 @@ HasFault ms WrongKind (place.key found) = fault_key form.WrongKind ms ≡ Some f
 HasFault ms (Hours fault) (place.calendar name) =
     HasTable (λ t. calendars.table_fault t ≡ Some (Hours fault)) name
     (table_at (codes "calendar") ms)
+HasFault ms (Hours in_hours.BadInterval) (place.interval name found) =
+    HasTable (IsMisplacedIn found) name (table_at (codes "calendar") ms)
 HasFault ms (Lifecycle fault) (place.lifecycle name) =
     HasTable (λ t. lifecycles.table_fault t ≡ Some (Lifecycle fault)) name
     (table_at (codes "lifecycle") ms)
@@ -96,10 +107,11 @@ HasFault ms (Rights rights.BadName) (place.person_named name) =
 HasFault ms (Rights rights.BadName) (place.group_named name) =
     (has_group (people_in ms).groups name ≡ true) × (is_name name ≡ false)
 HasFault ms (Rights rights.BadName) (place.granted n name) = HasGrant (IsMisnamed name) n ms
-HasFault ms (Rights rights.Repeated) (place.person_twice name) =
-    IsTwice name (people_in ms).persons
-HasFault ms (Rights rights.Repeated) (place.person_and_group name) =
-    (is_among (people_in ms).persons name ≡ true) × (has_group (people_in ms).groups name ≡ true)
+HasFault ms (Rights rights.Repeated) (place.person_twice name first second) =
+    IsAt first name (people_in ms).persons × IsAt second name (people_in ms).persons
+    × (first < second)
+HasFault ms (Rights rights.Repeated) (place.person_and_group name at) =
+    IsAt at name (people_in ms).persons × (has_group (people_in ms).groups name ≡ true)
 HasFault ms (Rights rights.Repeated) place.people =
     repeats_name (people_in ms).persons (people_in ms).groups ≡ true
 HasFault ms UnknownName (place.right n right) =

@@ -1,6 +1,7 @@
 -- Where a fault of settings stands, in words for people.
-use Rattle.std.specs.Prelude.{ℕ, List, ◌++◌, codes}
+use Rattle.std.specs.Prelude.{ℕ, ◌+◌, List, [], ◌∷◌, ◌++◌, codes, get_or}
 use Rattle.std.specs.Fmt.{decimal}
+use Rattle.hours_core.specs.declared.misplaced.MisplacedInterval.{MisplacedInterval}
 use Rattle.settings_form.specs.Places.{KeyAt, TablePath}
 use Rattle.settings_form.specs.declared.form.Place.{Place}
 use Rattle.settings_form.specs.declared.form.Place.TheVariants as form
@@ -55,14 +56,31 @@ key_in p path key = key_text key (table_text p path)
 abbrev pub key_at_text : KeyAt → List ℕ
 key_at_text found = key_in found.place found.path found.key
 
+-- the keys of a calendar's days, from Sunday on
+abbrev pub days : List (List ℕ)
+days =
+    codes "sun" ∷ codes "mon" ∷ codes "tue" ∷ codes "wed" ∷ codes "thu" ∷ codes "fri" ∷ codes "sat"
+    ∷ []
+
+abbrev pub day_key : ℕ → List ℕ
+day_key day = get_or days day []
+
+-- an interval of a calendar, by its number from 1
+abbrev pub interval_text : List ℕ → MisplacedInterval → List ℕ
+interval_text name found =
+    codes "[calendar."
+    ++ (name ++ (codes "]: interval " ++ (decimal (found.index + 1)
+    ++ (codes " of " ++ quoted (day_key found.day)))))
+
 -- the place: the key of its table, the table, or the name with what it is of
 abbrev pub place_text : FaultPlace → List ℕ
 place_text (place.key found) = key_at_text found
 place_text (place.calendar name) = headed (codes "calendar") name
+place_text (place.interval name found) = interval_text name found
 place_text (place.lifecycle name) = headed (codes "lifecycle") name
 place_text (place.person_named name) = codes "the person " ++ quoted name
-place_text (place.person_twice name) = codes "the person " ++ quoted name
-place_text (place.person_and_group name) = codes "the person " ++ quoted name
+place_text (place.person_twice name first second) = codes "the person " ++ quoted name
+place_text (place.person_and_group name at) = codes "the person " ++ quoted name
 place_text (place.group_named name) = codes "the group " ++ quoted name
 place_text (place.granted n name) = quoted_then name (codes " in " ++ grant n)
 place_text (place.group_member group name) =

@@ -10,7 +10,7 @@ mod grants;
 pub mod laws;
 pub mod lines;
 mod names;
-pub mod parts;
+mod parts;
 mod people;
 pub mod place;
 pub mod reading;

@@ -1,7 +1,9 @@
 //! The person, the group or the grant that has a fault.
 
-ghost use Rattle.std.specs.Prelude.{◌≡◌, [], IfOk, find};
-ghost use Rattle.std.specs.Option.{option_copied, option_map};
+ghost use Rattle.std.specs.Prelude.{◌≡◌, [], IfOk};
+ghost use Rattle.std.specs.List.{position};
+ghost use Rattle.std.specs.Option.{option_map};
+ghost use Rattle.std.specs.Str.{bytes_eq};
 ghost use Rattle.toml.specs.View.{table_view};
 ghost use Rattle.rights_core.specs.RightsFaults.{has_group as has_group_in};
 ghost use Rattle.settings_places.specs.Place as spec;
@@ -86,34 +88,81 @@ fn repeated_place<'t>(alloc: Global, parts: &Parts) -> Result<Option<FaultPlace<
     ensures { IfOk result (λ place. option_map spec.seen place ≡ spec.repeated_place parts.now) }
 {
     let persons = parts.persons.as_slice();
-    if let Some(name) = first_again(alloc, persons)? {
-        return Ok(Some(FaultPlace::PersonTwice(name.clone()?)));
-    }
-    match group_among(parts.groups.as_slice(), persons) {
-        Some(name) => Ok(Some(FaultPlace::PersonAndGroup(name.clone()?))),
-        None => Ok(Some(FaultPlace::People)),
+    match first_again(alloc, persons)? {
+        Some(second) => twice_at(persons, second),
+        None => match group_among(parts.groups.as_slice(), persons) {
+            Some(at) => shared_at(persons, at),
+            None => Ok(Some(FaultPlace::People)),
+        },
     }
 }
 
-/// The first of the names that an earlier one is.
-fn first_again(alloc: Global, names: &[Text]) -> Result<Option<&Text>, AllocError>
-    ensures { IfOk result (λ name. option_copied name ≡ spec.first_again [] names.now) }
+/// Which of the names is the first that an earlier one is, from 0.
+fn first_again(alloc: Global, names: &[Text]) -> Result<Option<usize>, AllocError>
+    ensures { IfOk result (λ at. at ≡ spec.first_again 0 [] names.now) }
 {
     let mut earlier = HashSet::new(alloc);
+    let mut index = 0;
     for name in names {
         if earlier.contains(name.as_str()) {
-            return Ok(Some(name));
+            return Ok(Some(index));
         }
         earlier.insert(String::from_str(alloc, name.as_str())?)?;
+        index += 1;
     }
     Ok(None)
 }
 
-/// The first of the names that is a group's.
-fn group_among<'n>(groups: &[Group], names: &'n [Text]) -> Option<&'n Text>
-    ensures { option_copied result ≡ find (has_group_in groups.now) names.now }
+/// The person at this place and the first one of the same name.
+fn twice_at<'t>(persons: &[Text], second: usize) -> Result<Option<FaultPlace<'t>>, AllocError>
+    ensures { IfOk result (λ place.
+        option_map spec.seen place ≡ spec.twice_at persons.now second) }
 {
-    names.iter().find(|name| has_group(groups, name.as_str()))
+    match persons.get(second) {
+        Some(name) => twice_named(persons, name, second),
+        None => Ok(None),
+    }
+}
+
+/// The first person of this name, and the one at this place.
+fn twice_named<'t>(
+    persons: &[Text],
+    name: &Text,
+    second: usize,
+) -> Result<Option<FaultPlace<'t>>, AllocError>
+    ensures { IfOk result (λ place.
+        option_map spec.seen place ≡ spec.twice_named persons.now second name.now) }
+{
+    match index_of(persons, name.as_str()) {
+        Some(first) => Ok(Some(FaultPlace::PersonTwice(name.clone()?, first, second))),
+        None => Ok(None),
+    }
+}
+
+/// Which of the names is the first that is this one, from 0.
+fn index_of(names: &[Text], name: &str) -> Option<usize>
+    ensures { result ≡ position (λ other. bytes_eq other name.now) names.now }
+{
+    names.iter().position(|other| other.as_str() == name)
+}
+
+/// Which of the names is the first that is a group's, from 0.
+fn group_among(groups: &[Group], names: &[Text]) -> Option<usize>
+    ensures { result ≡ position (has_group_in groups.now) names.now }
+{
+    names
+        .iter()
+        .position(|name| has_group(groups, name.as_str()))
+}
+
+/// The person at this place, whose name a group has.
+fn shared_at<'t>(persons: &[Text], at: usize) -> Result<Option<FaultPlace<'t>>, AllocError>
+    ensures { IfOk result (λ place. option_map spec.seen place ≡ spec.shared_at persons.now at) }
+{
+    match persons.get(at) {
+        Some(name) => Ok(Some(FaultPlace::PersonAndGroup(name.clone()?, at))),
+        None => Ok(None),
+    }
 }
 
 /// The first group with a member that is neither a person nor a group, and the member.

@@ -8,9 +8,10 @@ ghost use Rattle.settings_places.specs.Placed.{HasFault};
 ghost use Rattle.settings_places.specs.Place as spec;
 
 use crate::names::name_place;
-use crate::parts::{bad_calendar, bad_lifecycle};
+use crate::parts::{hours_place, lifecycle_place};
 use crate::people::people_place;
 use crate::tokens::token_place;
+use hours_core::MisplacedInterval;
 use settings_core::SettingsFault;
 use settings_core::limits::{bad_count, bad_limit};
 use settings_form::fault::FormFault;
@@ -26,6 +27,8 @@ pub enum FaultPlace<'t> {
     Key(KeyAt<'t>),
     /// A calendar.
     Calendar(&'t str),
+    /// A calendar, by its interval that can't stand where it does.
+    Interval(&'t str, MisplacedInterval),
     /// A lifecycle.
     Lifecycle(&'t str),
     /// A person, by the own name.
@@ -38,10 +41,10 @@ pub enum FaultPlace<'t> {
     Member(Text, Text),
     /// A grant, by whom it is for.
     Subject(usize, Text),
-    /// Two persons, by their name.
-    PersonTwice(Text),
-    /// A person and a group, by their name.
-    PersonAndGroup(Text),
+    /// Two persons, by their name and by their places in the list, from 0.
+    PersonTwice(Text, usize, usize),
+    /// A person and a group, by their name and the person's place in the list, from 0.
+    PersonAndGroup(Text, usize),
     /// The persons and groups.
     People,
     /// A grant, by this right.
@@ -89,14 +92,8 @@ fn first_place(
         SettingsFault::UnknownKey => Ok(key_place(FormFault::UnknownKey, table)),
         SettingsFault::Missing => Ok(key_place(FormFault::Missing, table)),
         SettingsFault::WrongKind => Ok(key_place(FormFault::WrongKind, table)),
-        SettingsFault::Hours(_) => match bad_calendar(alloc, table)? {
-            Some(name) => Ok(Some(FaultPlace::Calendar(name))),
-            None => Ok(None),
-        },
-        SettingsFault::Lifecycle(_) => match bad_lifecycle(alloc, table)? {
-            Some(name) => Ok(Some(FaultPlace::Lifecycle(name))),
-            None => Ok(None),
-        },
+        SettingsFault::Hours(fault) => hours_place(alloc, table, fault),
+        SettingsFault::Lifecycle(_) => lifecycle_place(alloc, table),
         SettingsFault::Rights(fault) => people_place(alloc, table, fault),
         SettingsFault::UnknownName => name_place(alloc, table),
         SettingsFault::BadToken => token_place(alloc, table),

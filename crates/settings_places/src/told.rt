@@ -1,14 +1,28 @@
 //! Where a fault of settings stands, in words for people.
 
-ghost use Rattle.std.specs.Prelude.{Some};
+ghost use Rattle.std.specs.Prelude.{◌≡◌, Some};
 ghost use Rattle.settings_form.specs.Places.{seen_key, seen_path};
 ghost use Rattle.settings_places.specs.Place.{seen};
+ghost use Rattle.settings_places.specs.Told as spec;
 ghost use Rattle.settings_places.specs.Told.{key_at_text, place_text, table_text};
 
 use crate::place::FaultPlace;
 use settings_form::form::Place;
 use settings_form::walk::{KeyAt, TablePath};
 use std::fmt;
+
+/// The keys of a calendar's days, from Sunday on.
+static DAYS: [&str; 7] = ["sun", "mon", "tue", "wed", "thu", "fri", "sat"];
+
+/// The key of a day of the week, from Sunday on, and empty for a day that a week doesn't have.
+pub fn day_key(day: usize) -> &'static str
+    ensures { result.now ≡ spec.day_key day }
+{
+    match DAYS.get(day) {
+        Some(key) => *key,
+        None => "",
+    }
+}
 
 /// A table of a settings text, to be named as the text does.
 #[derive(Clone, Copy)]
@@ -66,10 +80,15 @@ impl fmt::Display for FaultPlace<'_> {
         match self {
             FaultPlace::Key(found) => write!(f, "{}", KeyNamed { found: *found }),
             FaultPlace::Calendar(name) => write!(f, "[calendar.{}]", *name),
+            FaultPlace::Interval(name, found) => {
+                let number = found.index as u128 + 1;
+                let day = day_key(found.day);
+                write!(f, "[calendar.{}]: interval {number} of `{day}`", *name)
+            }
             FaultPlace::Lifecycle(name) => write!(f, "[lifecycle.{}]", *name),
             FaultPlace::Person(name)
-            | FaultPlace::PersonTwice(name)
-            | FaultPlace::PersonAndGroup(name) => write!(f, "the person `{}`", name.as_str()),
+            | FaultPlace::PersonTwice(name, _, _)
+            | FaultPlace::PersonAndGroup(name, _) => write!(f, "the person `{}`", name.as_str()),
             FaultPlace::Group(name) => write!(f, "the group `{}`", name.as_str()),
             FaultPlace::Granted(number, name) | FaultPlace::Subject(number, name) => write!(
                 f,

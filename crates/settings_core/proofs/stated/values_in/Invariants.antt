@@ -1,6 +1,6 @@
 use Rattle.std.proofs.Common.{◌≡◌, ◌++◌, List}
 use Rattle.toml.specs.View.{members_view}
-use Rattle.settings_core.specs.Stated.{Have, fault_in, parts_in}
+use Rattle.settings_core.specs.Stated.{Have, bad_in, parts_in}
 use Rattle.settings_core.specs.declared.named.Named.{Named}
 use Rattle.settings_core.proofs.stated.values_in.Given as goal
 
@@ -11,5 +11,5 @@ invariant-loop-name g l =
     ((before : List (Named g.T.Stated.Parts)) × Have g.T.Stated.has l.found.items before
     × (before ++ parts_in g.T.Stated.parts_of (members_view l.name-iterator)
     ≡ parts_in g.T.Stated.parts_of (members_view l.tables.entries)))
-    × (fault_in g.T.Stated.fault_of (members_view l.name-iterator)
-    ≡ fault_in g.T.Stated.fault_of (members_view l.tables.entries))
+    × (bad_in g.T.Stated.fault_of (members_view l.name-iterator)
+    ≡ bad_in g.T.Stated.fault_of (members_view l.tables.entries))

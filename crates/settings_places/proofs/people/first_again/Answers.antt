@@ -1,4 +1,4 @@
-use Rattle.std.proofs.Common.{◌≡◌, ◌+◌, cond, true, false, Some, ◌∷◌, drop, sym, ap, ◌∙◌, subst}
+use Rattle.std.proofs.Common.{◌≡◌, ◌+◌, cond, true, false, Some, ◌∷◌, drop, sym, ap, ◌∙◌, subst, arith}
 use Rattle.std.proofs.Common.{string_bytes}
 use Rattle.std.proofs.lemmas.List.{at_drop_more}
 use Rattle.std.proofs.lemmas.Map.Text.{hash_set_updates_text}
@@ -14,14 +14,16 @@ loop-name-preserved c =
     let xs = c.args.names.now in
     let i = c.loop-name.name-index in
     let name = c.name-item.result in
-    let (before, set, same) = c.loop-name.invariant in
+    let n = c.loop-name.index in
+    let (at, before, set, same) = c.loop-name.invariant in
     let rest = drop (i + 1) xs in
-    let step : first_again before (drop i xs) ≡ first_again before (name ∷ rest) =
-    at_drop_more (first_again before) xs i name c.loop-name-test.true
-    ∙ ap (λ n. first_again before (n ∷ rest)) (sym c.name-item.is) in
+    let step : first_again n before (drop i xs) ≡ first_again n before (name ∷ rest) =
+    at_drop_more (first_again n before) xs i name c.loop-name-test.true
+    ∙ ap (λ x. first_again n before (x ∷ rest)) (sym c.name-item.is) in
     let unknown : is_among before name ≡ false =
     subst (λ n. is_among before n ≡ false) c.as_str.ensures
     (sym (set c.as_str.result.now) ∙ sym c.contains.ensures ∙ c.if-contains.false) in (
+      omega (arith, at),
       name ∷ before,
       λ q. hash_set_updates_text (string_bytes c.in_ok-from_str.field-0)
           c.loop-name.earlier c.insert.new.self true c.in_ok-insert.ensures.updates q
@@ -29,7 +31,7 @@ loop-name-preserved c =
           (c.in_ok-from_str.ensures.ok ∙ c.as_str-in-loop-name.ensures)
           ∙ ap (λ b. cond (bytes_eq name q) true b) (set q)
           ∙ or_of (bytes_eq name q) (is_among before q),
-      sym (ap (λ b. cond b (Some name) (first_again (name ∷ before) rest)) unknown)
+      sym (ap (λ b. cond b (Some n) (first_again (n + 1) (name ∷ before) rest)) unknown)
           ∙ sym step ∙ same,
     )
 
@@ -38,12 +40,14 @@ returns-then-contains c =
     let xs = c.args.names.now in
     let i = c.loop-name.name-index in
     let name = c.name-item.result in
-    let (before, set, same) = c.loop-name.invariant in
+    let n = c.loop-name.index in
+    let (at, before, set, same) = c.loop-name.invariant in
     let rest = drop (i + 1) xs in
-    let step : first_again before (drop i xs) ≡ first_again before (name ∷ rest) =
-    at_drop_more (first_again before) xs i name c.loop-name-test.true
-    ∙ ap (λ n. first_again before (n ∷ rest)) (sym c.name-item.is) in
+    let step : first_again n before (drop i xs) ≡ first_again n before (name ∷ rest) =
+    at_drop_more (first_again n before) xs i name c.loop-name-test.true
+    ∙ ap (λ x. first_again n before (x ∷ rest)) (sym c.name-item.is) in
     let known : is_among before name ≡ true =
     subst (λ n. is_among before n ≡ true) c.as_str.ensures
     (sym (set c.as_str.result.now) ∙ sym c.contains.ensures ∙ c.if-contains.true) in
-    sym (ap (λ b. cond b (Some name) (first_again (name ∷ before) rest)) known) ∙ sym step ∙ same
+    sym (ap (λ b. cond b (Some n) (first_again (n + 1) (name ∷ before) rest)) known)
+    ∙ sym step ∙ same

@@ -8,3 +8,7 @@ returns-in-Member-clause-writes g c plain ok =
 pub returns-in-PersonOf-clause-writes : goal.returns-in-PersonOf-clause-writes
 returns-in-PersonOf-clause-writes g c plain ok =
     rw (c.in-PersonOf.is, ← c.as_str-in-PersonOf.ensures) (c.write-in-PersonOf.ensures.writes plain ok)
+
+pub returns-in-Interval-clause-writes : goal.returns-in-Interval-clause-writes
+returns-in-Interval-clause-writes g c plain ok =
+    rw (c.in-Interval.is, ← c.day_key-day.ensures) (c.write-in-Interval.ensures.writes plain ok)

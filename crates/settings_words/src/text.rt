@@ -3,15 +3,9 @@
 ghost use Rattle.std.specs.Prelude.{◌≢◌, OnOk};
 ghost use Rattle.settings_places.specs.declared.reading.Unread.TheVariants as unread_as;
 
-use crate::day::{BadInterval, bad_interval};
-use crate::inside::named;
 use crate::why::Told;
-use hours_core::HoursFault;
-use settings_core::SettingsFault;
-use settings_places::place::FaultPlace;
 use settings_places::reading::{PlacedFault, TomlFault, Unread};
 use std::alloc::{AllocError, Global};
-use toml::Table;
 
 /// Why a text states no settings: where the fault stands first, and what is wrong there. It is told
 /// of a fault alone, and not of want of memory.
@@ -37,29 +31,13 @@ fn fault_told(alloc: Global, placed: &PlacedFault) -> Result<String, AllocError>
     let table = &placed.table;
     match placed.place(alloc)? {
         Some(place) => {
-            let interval = interval_at(table, fault, &place);
             let told = Told {
                 place: &place,
                 fault,
                 table,
-                interval,
             };
             format!(in alloc; "settings: {told}")
         }
         None => format!(in alloc; "settings: {fault}"),
-    }
-}
-
-/// The first interval of a calendar that isn't in order, where that is its fault.
-fn interval_at<'t>(
-    table: &'t Table,
-    fault: SettingsFault,
-    place: &FaultPlace<'t>,
-) -> Option<BadInterval<'t>> {
-    match (fault, place) {
-        (SettingsFault::Hours(HoursFault::BadInterval), FaultPlace::Calendar(name)) => bad_interval(
-            named(table, "calendar", *name)?,
-        ),
-        _ => None,
     }
 }

@@ -1,17 +1,17 @@
 //! What is wrong where a fault of settings stands, in a sentence for people.
 
+ghost use Rattle.std.specs.Prelude.{◌≡◌, ◌+◌};
+
 use crate::amounts::{CountFault, LimitFault};
-use crate::day::BadInterval;
-use crate::inside::{number_of, value_of};
+use crate::inside::value_of;
+use crate::intervals::IntervalFault;
 use crate::typed::{Typed, misfit};
 use settings_core::SettingsFault;
 use settings_form::form::{Item, Keys, Kind, Place, TextForm, keys_at, kind_of};
 use settings_form::text_forms::has_form;
 use settings_form::walk::KeyAt;
-use settings_parts::values::array_at;
 use settings_places::place::FaultPlace;
 use std::fmt;
-use text_core::Text;
 use toml::{Table, Value};
 
 /// A fault of settings and its place in their table. It is told by both, as ``the person `Ann`: a
@@ -21,8 +21,6 @@ pub struct Told<'t> {
     pub place: &'t FaultPlace<'t>,
     pub fault: SettingsFault,
     pub table: &'t Table,
-    /// The interval of a calendar that isn't in order, where that is the fault.
-    pub interval: Option<BadInterval<'t>>,
 }
 
 impl fmt::Display for Told<'_> {
@@ -31,37 +29,67 @@ impl fmt::Display for Told<'_> {
             place,
             fault,
             table,
-            interval,
         } = *self;
-        write!(f, "{place}: ")?;
+        write!(f, "{place}")?;
         match place {
             FaultPlace::Key(found) => write!(
                 f,
-                "{}",
+                ": {}",
                 KeyFault {
                     found: *found,
                     fault,
-                    table,
+                    table
                 }
             ),
-            FaultPlace::Calendar(_) | FaultPlace::Lifecycle(_) | FaultPlace::People =>
-                match interval {
-                    Some(interval) => write!(f, "{interval}"),
-                    None => write!(f, "{}", Inner { fault }),
-                },
-            FaultPlace::PersonTwice(name) => write!(f, "{}", Twice { name, table }),
-            FaultPlace::PersonAndGroup(name) => write!(f, "{}", Shared { name, table }),
-            FaultPlace::Limit(level, key) => write!(
+            FaultPlace::Interval(calendar, found) => write!(
                 f,
                 "{}",
-                LimitFault {
+                IntervalFault {
                     table,
-                    level: *level,
-                    key: *key,
+                    calendar: *calendar,
+                    found: *found
                 }
             ),
-            FaultPlace::Count(key) => write!(f, "{}", CountFault { table, key: *key }),
-            _ => f.write_str(why_of(place)),
+            FaultPlace::Limit(level, key) => {
+                let level = *level;
+                let key = *key;
+                write!(f, ": {}", LimitFault { table, level, key })
+            }
+            FaultPlace::Count(key) => write!(f, ": {}", CountFault { table, key: *key }),
+            _ => write!(f, ": {}", NameFault { place, fault }),
+        }
+    }
+}
+
+/// What is wrong with a name, or with a calendar or a lifecycle by its name.
+#[derive(Clone, Copy)]
+struct NameFault<'t> {
+    place: &'t FaultPlace<'t>,
+    fault: SettingsFault,
+}
+
+impl fmt::Display for NameFault<'_> {
+    fn fmt<W: fmt::Write>(&self, f: &mut fmt::Formatter<W>) -> fmt::Result {
+        let fault = self.fault;
+        match self.place {
+            FaultPlace::Calendar(_) | FaultPlace::Lifecycle(_) | FaultPlace::People => write!(
+                f,
+                "{}",
+                Inner { fault }
+            ),
+            FaultPlace::PersonTwice(_, first, second) => {
+                let first = number(*first);
+                let second = number(*second);
+                write!(f, "it is name {first} and name {second} of `persons`")
+            }
+            FaultPlace::PersonAndGroup(_, at) => {
+                let number = number(*at);
+                write!(
+                    f,
+                    "it is name {number} of `persons`, and a group of [groups]"
+                )
+            }
+            _ => f.write_str(why_of(self.place)),
         }
     }
 }
@@ -83,42 +111,11 @@ fn why_of(place: &FaultPlace<'_>) -> &'static str {
     }
 }
 
-/// A name that two persons have.
-#[derive(Clone, Copy)]
-struct Twice<'t> {
-    name: &'t Text,
-    table: &'t Table,
-}
-
-impl fmt::Display for Twice<'_> {
-    fn fmt<W: fmt::Write>(&self, f: &mut fmt::Formatter<W>) -> fmt::Result {
-        let Some(persons) = array_at(self.table, "persons") else {
-            return f.write_str("this name stands twice");
-        };
-        let first = number_of(persons, self.name.as_str(), 0);
-        let second = number_of(persons, self.name.as_str(), first);
-        write!(f, "it is name {first} and name {second} of `persons`")
-    }
-}
-
-/// A name that a person and a group have.
-#[derive(Clone, Copy)]
-struct Shared<'t> {
-    name: &'t Text,
-    table: &'t Table,
-}
-
-impl fmt::Display for Shared<'_> {
-    fn fmt<W: fmt::Write>(&self, f: &mut fmt::Formatter<W>) -> fmt::Result {
-        let Some(persons) = array_at(self.table, "persons") else {
-            return f.write_str("this name stands twice");
-        };
-        let first = number_of(persons, self.name.as_str(), 0);
-        write!(
-            f,
-            "it is name {first} of `persons`, and a group of [groups]"
-        )
-    }
+/// The number, from 1, of what has this index.
+fn number(index: usize) -> u128
+    ensures { result ≡ index + 1 }
+{
+    index as u128 + 1
 }
 
 /// The fault inside that of a calendar, a lifecycle or the people.

@@ -1,12 +1,12 @@
 //! Values and tables inside a settings text.
 
 ghost use Rattle.std.specs.Prelude.{◌≡◌, option_map};
-ghost use Rattle.std.specs.Option.{option_map_or};
+ghost use Rattle.std.specs.Option.{option_copied, option_map_or};
 ghost use Rattle.toml.specs.Data.{get_item, no_members};
 ghost use Rattle.toml.specs.View.{array_view, table_view, view};
 ghost use Rattle.settings_form.specs.Places.{seen_key, seen_path};
 ghost use Rattle.settings_parts.specs.Values.{table_at as members_at};
-ghost use Rattle.check_core.specs.Inside as spec;
+ghost use Rattle.settings_words.specs.Inside as spec;
 
 use settings_form::form::Place;
 use settings_form::kinds::value_at;
@@ -52,7 +52,8 @@ pub fn named<'t>(table: &'t Table, key: &str, name: &str) -> Option<&'t Table>
 /// The table at a key of the one of a name under another key.
 fn inner<'t>(table: &'t Table, key: &str, path: TablePath<'t>) -> Option<&'t Table>
     ensures { option_map_or (λ t. table_view t.now) result no_members
-        ≡ members_at path.entry.key.now (spec.named key.now path.entry.around.now (table_view table.now)) }
+        ≡ members_at path.entry.key.now
+        (spec.named key.now path.entry.around.now (table_view table.now)) }
 {
     table_at(named(table, key, path.around)?, path.key)
 }
@@ -93,26 +94,17 @@ fn value_in(list: &Array, index: usize) -> Option<&Value>
     }
 }
 
-/// Which of a list's values is the first that has this text and comes after this many, from 1; or
-/// the last one.
-pub fn number_of(list: &Array, text: &str, after: usize) -> usize
-    ensures { result ≡ spec.number_of text.now after (array_view list.now) }
+/// The text of a calendar's interval, by its day's key and its index there, if there is one.
+pub fn interval_text<'t>(
+    table: &'t Table,
+    calendar: &str,
+    day: &str,
+    index: usize,
+) -> Option<&'t str>
+    ensures { option_copied result
+        ≡ spec.interval_text calendar.now day.now index (table_view table.now) }
 {
-    let mut number = 0;
-    for value in list {
-        number += 1;
-        if number > after && is_text(value, text) {
-            return number;
-        }
-    }
-    number
-}
-
-fn is_text(value: &Value, text: &str) -> bool
-    ensures { result ≡ spec.is_text text.now (view value.now) }
-{
-    match value.as_str() {
-        Some(other) => other == text,
-        None => false,
-    }
+    let calendar = named(table, "calendar", calendar)?;
+    let intervals = array_at(calendar, day)?;
+    value_in(intervals, index)?.as_str()
 }

@@ -1,10 +1,7 @@
 -- Values and tables inside a settings text.
-use Rattle.std.specs.Prelude.{◌&&◌, ◌+◌, ℕ, zero, suc, Bool, List, Option, codes, nat_lt, false}
-use Rattle.std.specs.Prelude.{if◌then◌else◌}
+use Rattle.std.specs.Prelude.{ℕ, zero, suc, List, Option, codes, option_and_then}
 use Rattle.std.specs.Option.{option_map_or}
-use Rattle.std.specs.Str.{bytes_eq}
-use Rattle.toml.specs.Data.{Data, Items, Members, as_str, get_item, get_member, item, no_items}
-use Rattle.toml.specs.Data.{no_members}
+use Rattle.toml.specs.Data.{Data, Items, Members, as_str, get_item, get_member, no_members}
 use Rattle.settings_form.specs.Places.{KeyAt, TablePath}
 use Rattle.settings_form.specs.declared.form.Place.{Place}
 use Rattle.settings_form.specs.declared.form.Place.TheVariants as form
@@ -42,16 +39,7 @@ reached form.Limit path ms = table_at path.key (named (codes "level") path.aroun
 abbrev pub value_of : KeyAt → Members → Option Data
 value_of found ms = get_member found.key (reached found.place found.path ms)
 
-abbrev pub is_text : List ℕ → Data → Bool
-is_text text d = option_map_or (λ s. bytes_eq s text) (as_str d) false
-
--- of values that are numbered from the one after n, the number of the first with this text that is
--- more than `after`, or the last number
-abbrev pub number_from : ℕ → List ℕ → ℕ → Items → ℕ
-number_from n text after no_items = n
-number_from n text after (item d ds) =
-    if nat_lt after (n + 1) && is_text text d then n + 1 else number_from (n + 1) text after ds
-
--- the number, from 1, of the first value after so many of a list that has this text
-abbrev pub number_of : List ℕ → ℕ → Items → ℕ
-number_of = number_from 0
+-- the text of a calendar's interval, by its day's key and its index there
+abbrev pub interval_text : List ℕ → List ℕ → ℕ → Members → Option (List ℕ)
+interval_text calendar day i ms =
+    option_and_then as_str (get_item i (items_at day (named (codes "calendar") calendar ms)))

@@ -1,13 +1,11 @@
 //! Values of a settings text, as they are typed.
 
 ghost use Rattle.std.specs.Prelude.{◌≡◌, option_map};
-ghost use Rattle.toml.specs.View.{array_view, view};
-ghost use Rattle.settings_form.specs.Kinds as kinds;
-ghost use Rattle.check_core.specs.Typed as spec;
+ghost use Rattle.toml.specs.View.{view};
+ghost use Rattle.settings_words.specs.Typed as spec;
 
-use settings_form::form::{Item, Kind, TextForm};
-use settings_form::kinds::two_of;
-use settings_form::text_forms::has_form;
+use settings_form::form::Kind;
+use settings_form::kinds::other_item;
 use std::fmt;
 use toml::Value;
 use toml::value::Array;
@@ -98,58 +96,13 @@ impl fmt::Display for Quoted<'_> {
     }
 }
 
-/// The first value of a list that is none of the items of this kind, where the value is a list and the
-/// kind one of lists.
+/// The first value of a list that is none of the items of this kind, where the value is a list and
+/// the kind one of lists.
 pub fn misfit(kind: Kind, value: &Value) -> Option<&Value>
     ensures { option_map (λ v. view v.now) result ≡ spec.misfit kind (view value.now) }
 {
     match (kind, value) {
         (Kind::Many(item), Value::Array(list)) => other_item(item, list),
         _ => None,
-    }
-}
-
-/// The first value of a list that is no such item.
-fn other_item(item: Item, list: &Array) -> Option<&Value>
-    ensures { option_map (λ v. view v.now) result ≡ spec.other_item item (array_view list.now) }
-{
-    for value in list {
-        if !is_item(item, value) {
-            return Some(value);
-        }
-    }
-    None
-}
-
-fn is_item(item: Item, value: &Value) -> bool
-    ensures { result ≡ kinds.is_item item (view value.now) }
-{
-    match item {
-        Item::Text(form) => is_text(form, value),
-        Item::Pair => is_pair(value),
-        Item::Table(_) => value.as_table().is_some(),
-        Item::Integer => value.is_integer(),
-        Item::Boolean => value.is_bool(),
-    }
-}
-
-fn is_text(form: TextForm, value: &Value) -> bool
-    ensures { result ≡ kinds.is_text form (view value.now) }
-{
-    match value.as_str() {
-        Some(text) => has_form(form, text),
-        None => false,
-    }
-}
-
-fn is_pair(value: &Value) -> bool
-    ensures { result ≡ kinds.is_pair (view value.now) }
-{
-    match value.as_array() {
-        Some(list) => match two_of(list) {
-            Some((first, second)) => first.is_integer() && second.is_integer(),
-            None => false,
-        },
-        None => false,
     }
 }

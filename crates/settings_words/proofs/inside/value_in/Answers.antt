@@ -1,7 +1,7 @@
 use Rattle.std.proofs.Common.{◌∙◌, ap, arith, length, Some}
 use Rattle.toml.specs.View.{view}
 use Rattle.toml.proofs.Views.{get_item_past, get_item_within}
-use Rattle.check_core.proofs.inside.value_in.Goals as goal
+use Rattle.settings_words.proofs.inside.value_in.Goals as goal
 
 pub returns-then-index-values : goal.returns-then-index-values
 returns-then-index-values c =
