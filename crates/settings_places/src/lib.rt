@@ -15,4 +15,4 @@ mod people;
 pub mod place;
 pub mod reading;
 mod tokens;
-mod told;
+pub mod told;

@@ -104,7 +104,7 @@ pub fn interval_text<'t>(
     ensures { option_copied result
         ≡ spec.interval_text calendar.now day.now index (table_view table.now) }
 {
-    let calendar = named(table, "calendar", calendar)?;
-    let intervals = array_at(calendar, day)?;
+    let hours = named(table, "calendar", calendar)?;
+    let intervals = array_at(hours, day)?;
     value_in(intervals, index)?.as_str()
 }

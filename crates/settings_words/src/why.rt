@@ -83,11 +83,8 @@ impl fmt::Display for NameFault<'_> {
                 write!(f, "it is name {first} and name {second} of `persons`")
             }
             FaultPlace::PersonAndGroup(_, at) => {
-                let number = number(*at);
-                write!(
-                    f,
-                    "it is name {number} of `persons`, and a group of [groups]"
-                )
+                let at = number(*at);
+                write!(f, "it is name {at} of `persons`, and a group of [groups]")
             }
             _ => f.write_str(why_of(self.place)),
         }
