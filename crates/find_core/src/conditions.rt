@@ -53,7 +53,7 @@ fn put_if(
     rows: &mut Vec<(RequestRow, Option<Minute>)>,
 ) -> Result<(), AllocError>
     ensures { OnOk result (rows.new.items
-        ≡ rows.old.items ++ if left then dated.now ∷ [] else []) }
+        ≡ rows.old.items ++ (if left then dated.now ∷ [] else [])) }
 {
     if left {
         let (row, due) = dated;
