@@ -1,9 +1,9 @@
 -- A grant of this index is one that its table makes.
 use Rattle.std.proofs.Common.{◌≡◌, ℕ, zero, suc, ◌+◌, ◌-◌, ◌<◌, ◌≤◌, Bool, true, false, List, [], ◌∷◌}
-use Rattle.std.proofs.Common.{◌++◌, map, length, Option, Some, None, slice_get, nat_lt, cond}
+use Rattle.std.proofs.Common.{◌++◌, map, length, Option, Some, None, slice_get, nat_lt}
 use Rattle.std.proofs.Common.{unwrap_or, codes, refl, sym, ◌∙◌, ap, subst, arith, if◌then◌else◌}
 use Rattle.std.specs.List.{list_any, position, position_from}
-use Rattle.std.specs.Option.{option_map, option_map_or}
+use Rattle.std.specs.Option.{option_map_or}
 use Rattle.std.specs.Str.{bytes_eq}
 use Rattle.std.proofs.lemmas.Bool.{ltb-false, ltb-true}
 use Rattle.std.proofs.lemmas.Iterator.Adapters.{position_from-zero}
@@ -17,7 +17,7 @@ use Rattle.settings_parts.specs.PeopleParts.{grant_of, grants_at, grants_in}
 use Rattle.settings_parts.specs.Values.{items_at, members_of, text_at, texts_at}
 use Rattle.settings_places.specs.Grants.{table_among}
 use Rattle.settings_places.specs.Placed.{HasGrant}
-use Rattle.settings_places.proofs.Found.{find_any, found_or, itself, mapped_some, or_left, or_right}
+use Rattle.settings_places.proofs.Found.{found_or, itself, mapped_some, or_left, or_right}
 
 -- ---- the index of what passes a test
 

@@ -1,6 +1,6 @@
 -- Each fault that a text has, has a place, and what stands there has it.
 use Rattle.std.proofs.Common.{◌≡◌, ◌⊎◌, inl, inr, ℕ, zero, suc, Bool, true, false, cond, not, ◌&&◌, ◌||◌}
-use Rattle.std.proofs.Common.{List, [], ◌∷◌, find, Option, Some, None, is_some, refl, sym, ◌∙◌, ap, arith}
+use Rattle.std.proofs.Common.{List, [], ◌∷◌, find, Option, Some, None, is_some, refl, sym, ◌∙◌, ap}
 use Rattle.std.proofs.Common.{subst, codes, slice_get, option_and_then, unwrap_or, if◌then◌else◌, ⊎_elim}
 use Rattle.std.proofs.Common.{Result, Ok, Err, IfOk, IsSomeAnd}
 use Rattle.std.specs.List.{list_all, position}
@@ -47,8 +47,7 @@ use Rattle.settings_core.specs.Reading.{build_fault, fault_of, has_limits, has_t
 use Rattle.settings_core.specs.Reading.{late_fault, table_fault}
 use Rattle.settings_core.specs.Tokens.{is_token}
 use Rattle.settings_core.specs.declared.fault.SettingsFault.{SettingsFault}
-use Rattle.settings_core.specs.declared.fault.SettingsFault.TheVariants.{UnknownKey, Missing}
-use Rattle.settings_core.specs.declared.fault.SettingsFault.TheVariants.{WrongKind, Hours}
+use Rattle.settings_core.specs.declared.fault.SettingsFault.TheVariants.{Hours}
 use Rattle.settings_core.specs.declared.fault.SettingsFault.TheVariants.{Lifecycle, Rights}
 use Rattle.settings_core.specs.declared.fault.SettingsFault.TheVariants.{UnknownName, BadToken}
 use Rattle.settings_core.specs.declared.fault.SettingsFault.TheVariants.{BadLimit}

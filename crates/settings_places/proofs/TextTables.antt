@@ -1,19 +1,17 @@
 -- What is place with the calendars, lifecycles and levels of a text.
-use Rattle.std.proofs.Common.{◌≡◌, inl, inr, ℕ, Bool, true, false, ◌&&◌}
+use Rattle.std.proofs.Common.{◌≡◌, inl, inr, ℕ, false}
 use Rattle.std.proofs.Common.{List, Option, Some, None, is_some, refl, sym, ◌∙◌}
 use Rattle.std.proofs.Common.{subst, codes, if◌then◌else◌}
 use Rattle.std.specs.Option.{option_map, option_or}
 use Rattle.toml.specs.Data.{Data, Members, no_members, member}
-use Rattle.settings_parts.specs.LevelParts.{has_limit_at, has_limits}
+use Rattle.settings_parts.specs.LevelParts.{has_limit_at}
 use Rattle.settings_parts.specs.Values.{members_of}
-use Rattle.settings_core.specs.Levels.{have_limits}
 use Rattle.settings_core.specs.Stated.{fault_in}
 use Rattle.settings_core.specs.declared.fault.SettingsFault.{SettingsFault}
 use Rattle.settings_core.specs.Limits.{bad_key, bad_limit_in}
 use Rattle.settings_places.specs.Parts.{bad_in}
 use Rattle.settings_places.specs.Placed.{HasTable}
-use Rattle.settings_places.proofs.Found.{either_some, found_unless, mapped_some, some_either}
-use Rattle.settings_places.proofs.Found.{some_mapped}
+use Rattle.settings_places.proofs.Found.{either_some, found_unless, mapped_some}
 
 -- ---- calendars and lifecycles
 

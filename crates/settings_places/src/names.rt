@@ -1,7 +1,7 @@
 //! The name that isn't known.
 
 ghost use Rattle.std.specs.Prelude.{◌≡◌, IfOk};
-ghost use Rattle.std.specs.Option.{option_map};
+ghost use Rattle.std.specs.Option.{option_map, option_or};
 ghost use Rattle.toml.specs.View.{table_view};
 ghost use Rattle.settings_core.specs.Settings.{lifecycles_of, levels_of, people_of, tokens_of};
 ghost use Rattle.settings_places.specs.Place as spec;
@@ -45,21 +45,43 @@ fn unknown_name<'t>(
         ≡ spec.unknown_name (table_view table.now) (lifecycles_of settings.now)
         (people_of settings.now) (levels_of settings.now) (tokens_of settings.now)) }
 {
-    let people = settings.people();
-    let grants = people.parts().grants.as_slice();
-    let right = right_place(alloc, table, settings.lifecycles(), grants)?;
-    if right.is_some() {
-        return Ok(right);
+    let grants = settings.people().parts().grants.as_slice();
+    match right_place(alloc, table, settings.lifecycles(), grants)? {
+        Some(place) => Ok(Some(place)),
+        None => name_in_levels(alloc, table, settings),
     }
-    let calendar = calendar_place(table, settings.levels())?;
-    if calendar.is_some() {
-        return Ok(calendar);
+}
+
+/// The first of the names that levels and tokens have.
+fn name_in_levels<'t>(
+    alloc: Global,
+    table: &Table,
+    settings: &Settings,
+) -> Result<Option<FaultPlace<'t>>, AllocError>
+    ensures { IfOk result (λ place. option_map spec.seen place
+        ≡ option_or (spec.calendar_place (table_view table.now) (levels_of settings.now))
+        (option_or (spec.status_place (lifecycles_of settings.now) (levels_of settings.now))
+        (spec.person_place (people_of settings.now) (tokens_of settings.now)))) }
+{
+    match calendar_place(table, settings.levels())? {
+        Some(place) => Ok(Some(place)),
+        None => status_or_person(alloc, settings),
     }
-    let status = status_place(alloc, settings.lifecycles(), settings.levels())?;
-    if status.is_some() {
-        return Ok(status);
+}
+
+/// The first status that a level ignores, or else the first person of a token.
+fn status_or_person<'t>(
+    alloc: Global,
+    settings: &Settings,
+) -> Result<Option<FaultPlace<'t>>, AllocError>
+    ensures { IfOk result (λ place. option_map spec.seen place
+        ≡ option_or (spec.status_place (lifecycles_of settings.now) (levels_of settings.now))
+        (spec.person_place (people_of settings.now) (tokens_of settings.now))) }
+{
+    match status_place(alloc, settings.lifecycles(), settings.levels())? {
+        Some(place) => Ok(Some(place)),
+        None => person_place(settings.people(), settings.tokens()),
     }
-    person_place(people, settings.tokens())
 }
 
 /// The first grant of a right that isn't known, and the right.
