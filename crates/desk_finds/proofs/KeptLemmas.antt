@@ -2,7 +2,7 @@
 use Rattle.std.proofs.Common.{◌≡◌, ◌∙◌, ◌+◌, ◌-◌, ◌<◌, ◌≤◌, ◌⊎◌, ⊎_elim, inl, inr, ℕ, Bool, true}
 use Rattle.std.proofs.Common.{false, not, cond, List, [], ◌∷◌, filter, find, length, Option, None}
 use Rattle.std.proofs.Common.{Some, Ok, IsPermutation, IsTrue, arith, refl, ap, sym, subst, get_or}
-use Rattle.std.proofs.Common.{nat_cmp}
+use Rattle.std.proofs.Common.{nat_cmp, ◌||◌}
 use Rattle.std.specs.Prelude.{IsSorted, nat_lt, option_and_then}
 use Rattle.std.specs.Coded.{Coded, Coded-set, code_by, coded_bool, coded_list, coded_option, coded_ℕ}
 use Rattle.std.specs.Coded.{coded×}
@@ -13,6 +13,7 @@ use Rattle.std.specs.Ordering.{is_lt}
 use Rattle.std.specs.Str.{bytes_eq}
 use Rattle.std.proofs.lemmas.Bool.{cases_lt, ltb-false, ltb-true}
 use Rattle.std.proofs.lemmas.Bool.Decides.{nat_tests}
+use Rattle.std.proofs.lemmas.Cmp.{nat_cmp_total}
 use Rattle.std.proofs.lemmas.List.Edits.{get_or-insert_above, get_or-insert_at}
 use Rattle.std.proofs.lemmas.List.Edits.{get_or-insert_below, length-insert}
 use Rattle.std.proofs.lemmas.List.Kept.{IsNonDecreasingBy-filter}
@@ -39,16 +40,17 @@ use Rattle.desk_model.specs.declared.rows.Turn.TheVariants as turn
 use Rattle.store_tables.specs.Calls.{LeavesTables}
 use Rattle.store_tables.specs.Contents.{Contents, contents_of}
 use Rattle.store_tables.specs.Contents.Request.{Dated, by_dated_id, has_number}
-use Rattle.store_tables.specs.Dated.{MakesDatedCommitted}
+use Rattle.store_tables.specs.Dated.{MakesDatedCommitted, ShowDatedCommitted}
 use Rattle.store_tables.specs.Picked.{AreOrdered}
 use Rattle.store_tables.proofs.ShownDated.{shown_held, shown_still}
 use Rattle.store_core.specs.Due.{RepresentsWithDue, due_of_row}
 use Rattle.store_core.specs.Rows.{dated_rows}
-use Rattle.store_core.specs.Written.{request_added, request_set, written}
+use Rattle.store_core.specs.Written.{request_added, written}
 use Rattle.store_core.proofs.DatedWritten.{written_dated}
 use Rattle.store_core.proofs.RiseLemmas.{dated_rise, dated_total, the_part}
 use Rattle.find_core.specs.Find.{class_in}
-use Rattle.desk_finds.specs.Kept.{AreOpenOn, FollowChange, Follows, HasRow, KeptRows}
+use Rattle.desk_finds.specs.Kept.{AreOpenOn, FollowChange, Follows, HasFiled, HasPut, HasRow}
+use Rattle.desk_finds.specs.Kept.{KeptRows}
 use Rattle.desk_finds.specs.Kept.{is_live_somewhere, may_be_open, open_among, open_rows}
 
 -- ---- rows have a code, so that two proofs that lists of them are the same are one
@@ -109,7 +111,7 @@ coded_rows = coded_list (coded× coded_row (coded_option coded_ℕ))
 
 -- ---- of a desk
 
--- what the tables that stand for a desk keep with it are its own
+-- where tables stand for a desk, the rows that may be open of those that they show are the desk's
 pub kept_of_desk : (s : Settings) (desk : Desk) → IsDesk desk → (st : State)
     → RepresentsWithDue s desk st → HasCleanDisk st → IsTrue st.is_open → (rows : List Dated)
     → AreOpenOn s rows st → rows ≡ open_rows s desk
@@ -134,6 +136,11 @@ kept_left s left None are = tt
 kept_left s left (Some rows) are =
     ∥∥₁_map are (λ it. (it.0, shown_still left it.0 it.1, it.2))
 
+-- what was read is so of what the tables show
+pub kept_read : (s : Settings) (st : State) (xs rows : List Dated) → ShowDatedCommitted xs st
+    → AreOrdered by_dated_id (open_among s xs) rows → KeptRows s (Some rows) st
+kept_read s st xs rows shown are = ∣ (xs, shown, are) ∣₁
+
 -- contents of which the requests alone matter
 abbrev with_dated : List Dated → Contents
 with_dated xs = record {
@@ -146,12 +153,12 @@ with_dated xs = record {
   stays = [];
 }
 
-pub kept_written : (s : Settings) (change : Change) (old new : State)
-    → MakesDatedCommitted (written change) old new (Ok tt) → (before after : Option (List Dated))
+pub kept_written : {X : Type 0} (x : X) (s : Settings) (change : Change) (old new : State)
+    → MakesDatedCommitted (written change) old new (Ok x) → (before after : Option (List Dated))
     → Follows s change before after → KeptRows s before old → KeptRows s after new
-kept_written s change old new makes before None follows are = tt
-kept_written s change old new makes None (Some after) follows are = absurd follows
-kept_written s change old new makes (Some before) (Some after) follows are =
+kept_written x s change old new makes before None follows are = tt
+kept_written x s change old new makes None (Some after) follows are = absurd follows
+kept_written x s change old new makes (Some before) (Some after) follows are =
     ∥∥₁_map are (λ it. (
       (written change (with_dated it.0)).dated,
       makes (with_dated it.0) it.1,
@@ -167,7 +174,7 @@ any_found {X} p q (y ∷ ys) x found passes =
     elim (p y) as (λ b. cond b (Some y) (find p ys) ≡ Some x → list_any q (y ∷ ys) ≡ true) [
       | true ↦ λ e.
           let same : y ≡ x = cc in rw (same, passes) refl
-      | false ↦ λ e. elim (q y) as (λ b. cond b true (list_any q ys) ≡ true) [
+      | false ↦ λ e. elim (q y) as (λ b. (b || list_any q ys) ≡ true) [
         | true ↦ refl
         | false ↦ any_found p q ys x e passes
       ]
@@ -193,7 +200,7 @@ live_somewhere s (Some queue) status live =
 
 -- ---- rows in the order of their numbers
 
-abbrev number : Dated → ℕ
+abbrev pub number : Dated → ℕ
 number d = d.0.id
 
 abbrev AreInOrder : List Dated → Type 0
@@ -203,7 +210,7 @@ AreInOrder rows = IsSorted by_dated_id rows
 pub never_fall : (rows : List Dated) → AreInOrder rows → IsNonDecreasingBy number rows
 never_fall rows sorted i j d le low =
     ge_from_not_lt (number (get_or rows j d)) (number (get_or rows i d))
-    (sorted_far (λ a b. is_lt (by_dated_id a b)) (ranks_by by_dated_id dated_total) rows sorted i j d le
+    (sorted_far (λ a b. is_lt (by_dated_id a b)) (ranks_by nat_cmp_total number) rows sorted i j d le
     low)
 
 not_lower : (a b : ℕ) → b ≤ a → is_lt (nat_cmp a b) ≡ false
@@ -215,51 +222,74 @@ in_order rows rise k d from within =
     (rise k (k + 1) d (omega arith) within)
 
 -- a row at the place that parts those below its number from the others
-placed_in_order : (rows : List Dated) (i : ℕ) (row : Dated) → i ≤ length rows → AreInOrder rows
-    → AllWithin (λ d. nat_lt (number d) (number row) ≡ true) rows 0 i
-    → AllWithin (λ d. nat_lt (number d) (number row) ≡ false) rows i (length rows)
-    → AreInOrder (insert rows i row)
-placed_in_order rows i row place sorted front back k d from within =
-    let long = length-insert rows i row place in
-    ⊎_elim
-    (λ below. rw (
-      get_or-insert_below rows i row d k (omega arith) place,
-      get_or-insert_below rows i row d (k + 1) below place,
-    ) (sorted k d from (omega arith)))
-    (λ rest. ⊎_elim
-    (λ same.
-    rw (
-      get_or-insert_below rows i row d k (omega arith) place,
-      ap (λ n. get_or (insert rows i row) n d) same ∙ get_or-insert_at rows i row d place,
-    )
-    (not_lower (number row) (number (get_or rows k d))
-    (let low = ltb-true (number (get_or rows k d)) (number row) (front k d from (omega arith)) in
-    omega arith)))
-    (λ later. rw (get_or-insert_above rows i row d k (omega arith) place) (at_or_above later))
-    (cases_at rest))
-    (cases_lt (k + 1) i)
+module _ (rows : List Dated) (i : ℕ) (row : Dated) (place : i ≤ length rows)
+    (sorted : AreInOrder rows)
+    (front : AllWithin (λ d. nat_lt (number d) (number row) ≡ true) rows 0 i)
+    (back : AllWithin (λ d. nat_lt (number d) (number row) ≡ false) rows i (length rows))
   where
-    cases_at : i ≤ k + 1 → (k + 1 ≡ i) ⊎ (i ≤ k)
-    cases_at le = ⊎_elim (λ lt. inr (omega arith)) (λ ge. inl (omega arith)) (cases_lt i (k + 1))
+    abbrev made : List Dated
+    made = insert rows i row
 
-    at_or_above : i ≤ k → is_lt (by_dated_id (get_or rows k d) (get_or (insert rows i row) k d)) ≡ false
-    at_or_above le = ⊎_elim
-        (λ above. later (k - 1) (omega arith))
-        (λ here. rw (ap (λ n. get_or (insert rows i row) n d) (at_place here)
-        ∙ get_or-insert_at rows i row d place)
+    -- the one after the place k isn't below that at k: in front of the row, at it, and behind it
+    before_it : (k : ℕ) (d : Dated) → k + 1 < i
+        → is_lt (by_dated_id (get_or made (k + 1) d) (get_or made k d)) ≡ false
+    before_it k d low =
+        rw (
+          get_or-insert_below rows i row d k (omega arith) place,
+          get_or-insert_below rows i row d (k + 1) low place,
+        )
+        (sorted k d (omega arith) (omega arith))
+
+    up_to_it : (k : ℕ) (d : Dated) → k + 1 ≡ i
+        → is_lt (by_dated_id (get_or made (k + 1) d) (get_or made k d)) ≡ false
+    up_to_it k d same =
+        rw (
+          get_or-insert_below rows i row d k (omega arith) place,
+          ap (λ n. get_or made n d) same ∙ get_or-insert_at rows i row d place,
+        )
+        (not_lower (number row) (number (get_or rows k d))
+        (let low = ltb-true (number (get_or rows k d)) (number row)
+        (front k d (omega arith) (omega arith)) in omega arith))
+
+    after_it : (k : ℕ) (d : Dated) → k ≡ i → k < length rows
+        → is_lt (by_dated_id (get_or made (k + 1) d) (get_or made k d)) ≡ false
+    after_it k d same low =
+        rw (
+          get_or-insert_above rows i row d k (omega arith) place,
+          ap (λ n. get_or made n d) same ∙ get_or-insert_at rows i row d place,
+        )
         (not_lower (number (get_or rows k d)) (number row)
-        (ltb-false (number (get_or rows k d)) (number row) (back k d le (omega arith)))))
-        (cases_lt i k)
-      where
-        at_place : k ≤ i → k ≡ i
-        at_place ge = omega arith
+        (ltb-false (number (get_or rows k d)) (number row) (back k d (omega arith) low)))
 
-        later : (m : ℕ) → m + 1 ≡ k
-            → is_lt (by_dated_id (get_or rows k d) (get_or (insert rows i row) k d)) ≡ false
-        later m e =
-            subst (λ n. is_lt (by_dated_id (get_or rows n d) (get_or (insert rows i row) n d)) ≡ false) e
-            (rw (get_or-insert_above rows i row d m (omega arith) place) (sorted m d (omega arith)
-            (omega arith)))
+    behind_it : (m : ℕ) (d : Dated) → i ≤ m → m + 1 < length rows
+        → is_lt (by_dated_id (get_or made (m + 1 + 1) d) (get_or made (m + 1) d)) ≡ false
+    behind_it m d high low =
+        rw (
+          get_or-insert_above rows i row d (m + 1) (omega arith) place,
+          get_or-insert_above rows i row d m high place,
+        ) (sorted m d (omega arith) low)
+
+    from_it : (k : ℕ) (d : Dated) → i ≤ k → k < length rows → (k ≡ i) ⊎ (i < k)
+        → is_lt (by_dated_id (get_or made (k + 1) d) (get_or made k d)) ≡ false
+    from_it k d high low (inl same) = after_it k d same low
+    from_it k d high low (inr later) =
+        let next : k - 1 + 1 ≡ k = omega arith in
+        subst (λ n. is_lt (by_dated_id (get_or made (n + 1) d) (get_or made n d)) ≡ false) next
+        (behind_it (k - 1) d (omega arith) (omega arith))
+
+    placed_in_order : AreInOrder made
+    placed_in_order k d from within =
+        let long = length-insert rows i row place in
+        ⊎_elim (before_it k d)
+        (λ rest. ⊎_elim
+        (λ high. from_it k d high (omega arith) (⊎_elim (λ lt. inr lt) (λ le. inl (omega arith))
+        (cases_lt i k)))
+        (λ near. up_to_it k d (omega arith))
+        (sides rest))
+        (cases_lt (k + 1) i)
+      where
+        sides : i ≤ k + 1 → (i ≤ k) ⊎ (k < i)
+        sides le = ⊎_elim (λ lt. inr lt) (λ ge. inl ge) (cases_lt k i)
 
 -- so it is among those that may be open
 pub row_put : (s : Settings) (row : Dated) (old : List Dated) (i : ℕ) → i ≤ length old
@@ -288,17 +318,15 @@ row_left_out s row old shut xs are = rw shut are
 both_passed : {X : Type 0} (p q : X → Bool) (xs : List X)
     → filter p (filter q xs) ≡ filter q (filter p xs)
 both_passed p q [] = refl
-both_passed {X} p q (x ∷ xs) =
-    let rest = both_passed p q xs in
-    elim (p x) as (λ b. filter p (cond (q x) (x ∷ filter q xs) (filter q xs))
-    ≡ filter q (cond b (x ∷ filter p xs) (filter p xs))) [
-      | true ↦ elim (q x) as (λ c. filter p (cond c (x ∷ filter q xs) (filter q xs))
-          ≡ cond c (x ∷ filter q (filter p xs)) (filter q (filter p xs))) [
-            | true ↦ rest
-            | false ↦ rest
-          ]
-      | false ↦ rest
-    ]
+both_passed {X} p q (x ∷ xs) = by (p x) (q x) refl refl (both_passed p q xs)
+  where
+    by : (b c : Bool) → p x ≡ b → q x ≡ c → filter p (filter q xs) ≡ filter q (filter p xs)
+        → filter p (cond (q x) (x ∷ filter q xs) (filter q xs))
+        ≡ filter q (cond (p x) (x ∷ filter p xs) (filter p xs))
+    by true true e f rest = rw f (rw e (rw f (ap (λ (ys : List X). x ∷ ys) rest)))
+    by true false e f rest = rw f (rw e (rw f rest))
+    by false true e f rest = rw f (rw e rest)
+    by false false e f rest = rw (e, f) rest
 
 -- the rows without those of a number
 pub without_number : (s : Settings) (id : ℕ) (xs old : List Dated)
@@ -317,31 +345,17 @@ without_number s id xs old are =
           (IsNonDecreasingBy-filter number others old (never_fall old are.sorted));
     }
 
--- with the request that is filed, and the row that is put
-pub changed : (s : Settings) (change : Change) (old filed new : List Dated)
-    → ((row : RequestRow) → change.filed ≡ Some row → HasRow s (row, change.due) old filed)
-    → (change.filed ≡ None → filed ≡ old)
-    → ((row : RequestRow) → change.row ≡ Some row
-    → HasRow s (row, change.due) (filter (λ d. not (has_number row.id d)) filed) new)
-    → (change.row ≡ None → new ≡ filed)
+-- with the row that is put in the place of one
+pub put_follows : (s : Settings) (row : RequestRow) (due : Option ℕ) (old new : List Dated)
+    → HasRow s (row, due) (filter (λ d. not (has_number row.id d)) old) new
+    → HasPut s (Some row) due old new
+put_follows s row due old new has c are =
+    has (filter (λ d. not (has_number row.id d)) c.dated) (without_number s row.id c.dated old are)
+
+-- with both
+pub follows : (s : Settings) (change : Change) (old filed new : List Dated)
+    → HasFiled s change.filed change.due old filed → HasPut s change.row change.due filed new
     → FollowChange s change old new
-changed s change old filed new files unfiled puts unput c are =
+follows s change old filed new files puts c are =
     subst (λ xs. AreOrdered by_dated_id (open_among s xs) new) (sym (written_dated change c))
-    (put change.row refl (add change.filed refl))
-  where
-    Ordered : List Dated → List Dated → Type 0
-    Ordered xs rows = AreOrdered by_dated_id (open_among s xs) rows
-
-    add : (o : Option RequestRow) → change.filed ≡ o
-        → Ordered (request_added o change.due c).dated filed
-    add None e = subst (Ordered c.dated) (sym (unfiled e)) are
-    add (Some row) e = files row e c.dated are
-
-    put : (o : Option RequestRow) → change.row ≡ o
-        → Ordered (request_added change.filed change.due c).dated filed
-        → Ordered (request_set o change.due (request_added change.filed change.due c)).dated new
-    put None e added = subst (Ordered (request_added change.filed change.due c).dated) (sym (unput e)) added
-    put (Some row) e added =
-        let before = (request_added change.filed change.due c).dated in
-        puts row e (filter (λ d. not (has_number row.id d)) before)
-        (without_number s row.id before filed added)
+    (puts (request_added change.filed change.due c) (files c are))

@@ -10,13 +10,14 @@ use Rattle.settings_core.specs.declared.settings.Settings.{Settings}
 use Rattle.desk_model.specs.Desk.{Desk}
 use Rattle.desk_model.specs.Due.{is_live_class}
 use Rattle.desk_model.specs.declared.change.Change.{Change}
+use Rattle.desk_model.specs.declared.rows.RequestRow.{RequestRow}
 use Rattle.store_tables.specs.Contents.{Contents}
 use Rattle.store_tables.specs.Contents.Request.{Dated, by_dated_id}
 use Rattle.store_tables.specs.Dated.{ShowDatedCommitted}
 use Rattle.store_tables.specs.Picked.{AreOrdered}
 use Rattle.store_core.specs.Due.{due_of_row}
 use Rattle.store_core.specs.Rows.{dated_rows}
-use Rattle.store_core.specs.Written.{written}
+use Rattle.store_core.specs.Written.{request_added, request_set, written}
 
 -- the status is live in a lifecycle, whichever that of the queue is
 abbrev pub is_live_somewhere : Settings → List ℕ → Bool
@@ -37,8 +38,8 @@ open_rows settings desk = open_among settings (dated_rows (due_of_row settings d
 -- in the order of their numbers, these are the rows that may be open of those that the tables show
 abbrev pub AreOpenOn : Settings → List Dated → State → Type 0
 AreOpenOn settings rows s =
-    ∥ (xs : List Dated) × ShowDatedCommitted xs s
-    × AreOrdered by_dated_id (open_among settings xs) rows ∥₁
+    ∥ ((xs : List Dated) × ShowDatedCommitted xs s
+    × AreOrdered by_dated_id (open_among settings xs) rows) ∥₁
 
 -- rows that are kept are so; where none are, nothing is said
 abbrev pub KeptRows : Settings → Option (List Dated) → State → Type 0
@@ -55,12 +56,22 @@ pub KeptRows-prop : (settings : Settings) (kept : Option (List Dated)) (s : Stat
 KeptRows-prop settings None s = Unit-prop
 KeptRows-prop settings (Some rows) s = ∥∥₁_prop
 
--- rows that may be open of whatever requests the tables hold are, once a change is written, those of
--- what it makes of these
-abbrev pub FollowChange : Settings → Change → List Dated → List Dated → Type 0
-FollowChange settings change old new =
+-- where they are those that may be open of whatever requests the tables hold, they are, with the
+-- request that is filed, with the row that is put, or once a change is written, those of what that
+-- makes of these
+abbrev pub Follow : Settings → (Contents → Contents) → List Dated → List Dated → Type 0
+Follow settings step old new =
     (c : Contents) → AreOrdered by_dated_id (open_among settings c.dated) old
-    → AreOrdered by_dated_id (open_among settings (written change c).dated) new
+    → AreOrdered by_dated_id (open_among settings (step c).dated) new
+
+abbrev pub HasFiled : Settings → Option RequestRow → Option ℕ → List Dated → List Dated → Type 0
+HasFiled settings filed due = Follow settings (request_added filed due)
+
+abbrev pub HasPut : Settings → Option RequestRow → Option ℕ → List Dated → List Dated → Type 0
+HasPut settings put due = Follow settings (request_set put due)
+
+abbrev pub FollowChange : Settings → Change → List Dated → List Dated → Type 0
+FollowChange settings change = Follow settings (written change)
 
 -- rows that may be open of some are, with one more, those of these and of that one
 abbrev pub HasRow : Settings → Dated → List Dated → List Dated → Type 0

@@ -1,8 +1,10 @@
 //! The requests that may be open, kept beside the tables, so that what asks for open ones alone needs
 //! no look at all the others.
-ghost use Rattle.std.specs.Prelude.{◌≡◌, IfErr, IfOk, IsTrue, Some, filter, not};
+ghost use Rattle.std.specs.Prelude.{◌≡◌, IfErr, IfOk, IsTrue, Some, filter, not, true};
+ghost use Rattle.settings_core.specs.declared.settings.Settings.{Settings};
 ghost use Rattle.store_tables.specs.Calls.{LeavesTables};
-ghost use Rattle.store_tables.specs.Contents.Request.{has_number};
+ghost use Rattle.store_tables.specs.Contents.Request.{by_dated_id, has_number};
+ghost use Rattle.store_tables.specs.Picked.{AreOrdered};
 ghost use Rattle.store_core.specs.Due.{TellsDue};
 ghost use Rattle.store_core.specs.Seen.{state_of};
 ghost use Rattle.desk_finds.specs.Kept as kept;
@@ -36,12 +38,12 @@ impl Model for OpenRequests {
 }
 
 impl OpenRequests {
-    /// Those among the rows of all requests, which stand in the order of their numbers. Takes no
-    /// memory, and gives that of the others back.
+    /// Those among the rows of all requests. Takes no memory, and gives that of the others back.
     fn among(settings: &Settings, mut rows: Vec<Dated>) -> OpenRequests
-        ensures { result ≡ open_among settings.now rows.items }
+        ensures { AreOrdered by_dated_id (open_among settings.now rows.items) result }
     {
         rows.retain(|dated| may_be_open(settings, &dated.0.status));
+        rows.sort_unstable_by_key(|dated| dated.0.id);
         rows.shrink_to_fit();
         OpenRequests { rows }
     }
@@ -81,11 +83,14 @@ pub(crate) fn keep<S: Backend>(
     ensures kept { LeavesTables (state_of S.Store store.old) (state_of S.Store store.new) }
     ensures fault { IfErr result (λ refusal. refusal ≡ Refusal.Unavailable) }
 {
-    if kept.is_none() {
-        let rows = store.dated_requests(alloc)?;
-        *kept = Some(OpenRequests::among(settings, rows));
+    match kept {
+        Some(_) => Ok(()),
+        None => {
+            let rows = store.dated_requests(alloc)?;
+            *kept = Some(OpenRequests::among(settings, rows));
+            Ok(())
+        }
     }
-    Ok(())
 }
 
 /// What is kept follows a change that was written to the tables. Where memory is refused nothing is
@@ -108,30 +113,65 @@ fn with_change(
 ) -> Result<Vec<Dated>, AllocError>
     ensures { IfOk result (λ new. kept.FollowChange settings.now change.now rows.items new.items) }
 {
-    let rows = match &change.filed {
-        Some(row) => with_row(settings, row, change.due, rows)?,
-        None => rows,
-    };
-    match &change.row {
-        Some(row) => with_row(settings, row, change.due, without(row.id, rows)),
+    let rows = with_filed(settings, &change.filed, change.due, rows)?;
+    with_put(settings, &change.row, change.due, rows)
+}
+
+fn with_filed(
+    settings: &Settings,
+    filed: &Option<RequestRow>,
+    due: Option<Minute>,
+    rows: Vec<Dated>,
+) -> Result<Vec<Dated>, AllocError>
+    ensures { IfOk result (λ new. kept.HasFiled settings.now filed.now due rows.items new.items) }
+{
+    match filed {
+        Some(row) => with_row(settings, row, due, rows),
         None => Ok(rows),
     }
 }
 
-/// The rows with this one at the place of its number, if it may be open. `AllocError` where memory is
-/// refused.
+fn with_put(
+    settings: &Settings,
+    put: &Option<RequestRow>,
+    due: Option<Minute>,
+    rows: Vec<Dated>,
+) -> Result<Vec<Dated>, AllocError>
+    ensures { IfOk result (λ new. kept.HasPut settings.now put.now due rows.items new.items) }
+{
+    match put {
+        Some(row) => with_row(settings, row, due, without(row.id, rows)),
+        None => Ok(rows),
+    }
+}
+
+/// The rows with this one, if it may be open. `AllocError` where memory is refused.
 fn with_row(
     settings: &Settings,
     row: &RequestRow,
     due: Option<Minute>,
-    mut rows: Vec<Dated>,
+    rows: Vec<Dated>,
 ) -> Result<Vec<Dated>, AllocError>
     ensures { IfOk result (λ new. kept.HasRow settings.now (row.now, due) rows.items new.items) }
 {
     if may_be_open(settings, &row.status) {
-        let place = rows.partition_point(|dated| dated.0.id < row.id);
-        rows.insert(place, (row.clone()?, due))?;
+        placed(row.clone()?, due, rows)
+    } else {
+        Ok(rows)
     }
+}
+
+/// The rows with this one at the place of its number. `AllocError` where memory is refused.
+fn placed(
+    row: RequestRow,
+    due: Option<Minute>,
+    mut rows: Vec<Dated>,
+) -> Result<Vec<Dated>, AllocError>
+    ensures { (settings : Settings) → kept.may_be_open settings (row, due) ≡ true
+        → IfOk result (λ new. kept.HasRow settings (row, due) rows.items new.items) }
+{
+    let place = rows.partition_point(|dated| dated.0.id < row.id);
+    rows.insert(place, (row, due))?;
     Ok(rows)
 }
 
