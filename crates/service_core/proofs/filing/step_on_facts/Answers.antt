@@ -14,13 +14,16 @@ returns-in-Ok g c =
     let old = state_of g.S.Store c.args.store.now in
     let new = state_of g.S.Store c.write_with_text.new.store in
     record {
-      step =
-          written_filing facts c.in-Ok.change s ask c.args.text.now c.write_with_text.result old new
-          c.requires.files c.in-Ok.ensures.accepts c.in-Ok.ensures.planned.0.1
-          c.write_with_text.ensures.done c.write_with_text.ensures.fault
-          c.write_with_text.ensures.undone;
-      refused = c.write_with_text.ensures.undone;
-      keeps = c.write_with_text.ensures.keeps;
+      safely = record {
+        step =
+            written_filing facts c.in-Ok.change s ask c.args.text.now c.write_with_text.result old new
+            c.requires.files c.in-Ok.ensures.accepts c.in-Ok.ensures.planned.0.1
+            c.write_with_text.ensures.done c.write_with_text.ensures.fault
+            c.write_with_text.ensures.undone;
+        refused = c.write_with_text.ensures.undone;
+        keeps = c.write_with_text.ensures.keeps;
+      };
+      rows = c.write_with_text.ensures.rows;
     }
 
 pub returns-in-Err : goal.returns-in-Err
@@ -29,5 +32,8 @@ returns-in-Err g c =
     let ask = asked c.args.call c.args.command.now in
     let facts = c.args.facts.now in
     let tables = state_of g.S.Store c.args.store.now in
-    refused_safely (FilesSeeing facts s ask c.args.text.now) tables c.in-Err.refusal
-    (refused_seen facts s ask c.args.text.now c.in-Err.refusal tables c.in-Err.ensures.refuses)
+    record {
+      safely = refused_safely (FilesSeeing facts s ask c.args.text.now) tables c.in-Err.refusal
+          (refused_seen facts s ask c.args.text.now c.in-Err.refusal tables c.in-Err.ensures.refuses);
+      rows = λ are. are;
+    }

@@ -7,7 +7,7 @@ use Rattle.service_core.proofs.FindLemmas.{read_so, refused_so}
 use Rattle.service_core.proofs.loads.look.Goals as goal
 
 pub returns-in-Some-clause-told : goal.returns-in-Some-clause-told
-returns-in-Some-clause-told g c desk is stand clean = (
+returns-in-Some-clause-told g c are desk is stand clean = (
   λ told.
       refused_so c.args.call.settings.now c.args.call.at c.args.call.caller.now
       (queue_loads c.args.call.settings.now c.args.call.at c.args.call.caller.now desk)
@@ -17,12 +17,12 @@ returns-in-Some-clause-told g c desk is stand clean = (
 )
 
 pub returns-in-None-clause-told : goal.returns-in-None-clause-told
-returns-in-None-clause-told g c desk is stand clean = (
+returns-in-None-clause-told g c are desk is stand clean = (
   read_so c.args.call.settings.now c.args.call.at c.args.call.caller.now
       (queue_loads c.args.call.settings.now c.args.call.at c.args.call.caller.now desk)
       c.args.overdue.now
       c.requires c.queue_loads.result c.in-None.ensures.first
-      (c.queue_loads.ensures.told desk is stand clean) c.queue_loads.ensures.fault,
+      (c.queue_loads.ensures.told are desk is stand clean) c.queue_loads.ensures.fault,
   stands c.queue_loads.ensures.kept (contents_of (due_of_row c.args.call.settings.now desk) desk)
       stand,
 )

@@ -14,17 +14,19 @@ returns-in-Some-clause-step g c =
     (tables_of g.S.Store c.args.self.now) c.requires c.in-Some.ensures.always
 
 pub returns-in-None-clause-step : goal.returns-in-None-clause-step
-returns-in-None-clause-step g c = c.step.ensures.step
+returns-in-None-clause-step g c = c.step.ensures.safely.step
 
 pub returns-in-None-clause-refused : goal.returns-in-None-clause-refused
-returns-in-None-clause-refused g c = c.step.ensures.refused
+returns-in-None-clause-refused g c = c.step.ensures.safely.refused
 
 pub returns-in-None-clause-left : goal.returns-in-None-clause-left
 returns-in-None-clause-left g c =
-    record { same = refl; clean = c.step.ensures.keeps.clean; lasts = c.step.ensures.keeps.lasts }
+    record { same = refl; clean = c.step.ensures.safely.keeps.clean; lasts = c.step.ensures.safely.keeps.lasts }
 
 pub returns-in-Some-clause-refused : goal.returns-in-Some-clause-refused
 returns-in-Some-clause-refused g c = unread _
 
 pub returns-in-Some-clause-left : goal.returns-in-Some-clause-left
-returns-in-Some-clause-left g c = left_same g.S.Store c.args.self.now
+returns-in-Some-clause-left g c =
+    let it = left_same g.S.Store c.args.self.now in
+    record { same = it.same; clean = it.clean; lasts = it.lasts }
