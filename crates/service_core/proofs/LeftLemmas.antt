@@ -1,9 +1,15 @@
 -- What a call leaves of a store and of a desk, and one call after another.
-use Rattle.std.proofs.Common.{◌∙◌, refl}
+use Rattle.std.proofs.Common.{◌∙◌, List, None, Option, Some, refl}
 use Rattle.sqlite.specs.State.{State}
 use Rattle.sqlite.specs.Store.{Ghosts}
 use Rattle.store_tables.proofs.Lasting.{on, same}
 use Rattle.store_tables.specs.Calls.{LeavesTables}
+use mathlib.Core.Logic.{∥∥₁_map}
+use Rattle.settings_core.specs.declared.settings.Settings.{Settings}
+use Rattle.store_tables.specs.Contents.Request.{Dated}
+use Rattle.store_tables.proofs.ShownDated.{shown_left}
+use Rattle.store_core.specs.Limits.{OnlyLimits}
+use Rattle.desk_finds.specs.Kept.{KeptRows}
 use Rattle.service_core.specs.Leaves.{KeepsStore, LeavesDesk}
 use Rattle.service_core.specs.declared.desk.Desk.{Desk}
 
@@ -30,3 +36,10 @@ left_on g old mid new one two = record {
   clean = λ clean. one.clean (two.clean clean);
   lasts = on two.clean one.lasts two.lasts;
 }
+
+-- a limit on steps leaves what is kept
+pub kept_limited : (s : Settings) {old new : State} → OnlyLimits old new → (kept : Option (List Dated))
+    → KeptRows s kept old → KeptRows s kept new
+kept_limited s only None are = tt
+kept_limited s {old} {new} only (Some rows) are =
+    ∥∥₁_map are (λ it. (it.0, shown_left old new only.clean only.left it.0 it.1, it.2))

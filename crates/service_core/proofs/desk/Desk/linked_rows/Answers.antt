@@ -6,6 +6,7 @@ use Rattle.service_core.specs.LinkedRows.{linked_rows}
 use Rattle.service_core.specs.Seen.{settings_of}
 use Rattle.desk_model.specs.View.{view}
 use Rattle.service_core.proofs.FindLemmas.{as_read}
+use Rattle.desk_finds.proofs.KeptLemmas.{kept_left}
 use Rattle.service_core.proofs.desk.Desk.linked_rows.Goals as goal
 
 pub returns-clause-told : goal.returns-clause-told
@@ -16,3 +17,9 @@ returns-clause-told g c desk is stand clean =
           (c.linked_to.ensures.told desk is (due, stand) clean) c.linked_to.ensures.fault,
       stands c.linked_to.ensures.kept (contents_of due desk) stand,
     )
+
+pub invariant_of-self : goal.invariant_of-self
+invariant_of-self g c = record {
+  rows =
+      kept_left c.args.self.now.settings c.linked_to.ensures.kept c.args.self.now.kept c.args.self.now.rows;
+}

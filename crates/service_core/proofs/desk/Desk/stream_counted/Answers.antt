@@ -7,6 +7,7 @@ use Rattle.store_tables.specs.Contents.{contents_of}
 use Rattle.service_core.specs.Seen.{settings_of}
 use Rattle.service_core.specs.TableSteps.{ask_by}
 use Rattle.service_core.proofs.StreamLemmas.{refused_stream}
+use Rattle.desk_finds.proofs.KeptLemmas.{kept_left}
 use Rattle.service_core.proofs.desk.Desk.stream_counted.Goals as goal
 
 pub returns-in-Some-clause-streamed : goal.returns-in-Some-clause-streamed
@@ -47,3 +48,9 @@ returns-in-Some-clause-left g c = record { same = refl; kept = unread _ }
 pub returns-in-None-clause-left : goal.returns-in-None-clause-left
 returns-in-None-clause-left g c =
     record { same = refl; kept = c.put_if_admitted.ensures.streamed.kept }
+
+pub invariant_of-self-in-None : goal.invariant_of-self-in-None
+invariant_of-self-in-None g c = record {
+  rows =
+      kept_left c.args.self.now.settings c.put_if_admitted.ensures.streamed.kept c.args.self.now.kept c.args.self.now.rows;
+}
