@@ -8,7 +8,8 @@ JOBS ?= $(shell awk -v n=$$(nproc) '/^MemAvailable/ { j = 1 + int(($$2 / 1000000
 	if (j > n) j = n; if (j > 4) j = 4; if (j > 1) print j }' /proc/meminfo)
 
 # The crates whose wrong edits the gate doesn't try, since it has to end within three hours on two cores. Each
-# of them was refused on 1 December 2026, by 34 minutes together. `make edits NAME=CRATE` tries one crate's.
+# of them was refused on 1 December 2026, by 34 minutes together; since then check_core and store_core have
+# changed, and theirs weren't tried again. `make edits NAME=CRATE` tries one crate's.
 UNTRIED = check_core desk_load page_wire server_core service_core store_core
 
 # All others that have any.
